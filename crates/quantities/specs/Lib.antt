@@ -1,0 +1,5 @@
+pub mod Limits
+pub mod Kinds
+pub mod Money
+pub mod Facts
+pub mod Refusals

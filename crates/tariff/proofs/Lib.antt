@@ -1,0 +1,2 @@
+pub mod VectorBounds
+pub mod ExtraBounds
