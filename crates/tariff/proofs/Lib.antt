@@ -1,2 +1,3 @@
+pub mod SideBounds
 pub mod VectorBounds
 pub mod ExtraBounds

@@ -1,20 +1,13 @@
--- The vector's rate by its stretches of frequency, and the bounds of rate and charge. Assumes nothing.
+-- The vector's rate by its stretches of frequency, and its bound. Assumes nothing.
 use mathlib.Core.Path.{_≡_}
 use Prim.Native.Nat.{ℕ, _+_, _-_, _*_, _/_, _≤_, _<_, min}
-use native.Mathlib.Nat.{mul-le-mul-left, mul-le-mul, mul-comm, div-le-of-le-mul}
+use native.Mathlib.Nat.{mul-le-mul-left, mul-comm, div-le-of-le-mul}
 use native.Mathlib.Omega.{arith}
 use lib.Dec.{leb}
-use lib.IntN.{pos}
-use Rattle.std.proofs.shelf.Signed.{ints}
 use Rattle.std.proofs.shelf.Tests.{cond-both, leb-true}
 use Rattle.std.proofs.shelf.Ways.{tells}
-use Rattle.quantities.specs.Facts.{Facts, Within, deviation}
-use Rattle.quantities.specs.Limits.{most-rate, most-kwh, most-charge}
-use Rattle.quantities.specs.Money.{on-side}
-use Rattle.quantities.specs.declared.side.Side.{Side}
-use Rattle.quantities.specs.declared.side.Side.the-variants.{Payable, Receivable}
-use Rattle.tariff.specs.Charges.{Bounded}
-use Rattle.tariff.specs.Vector.{vector-rate, vector-side, vector-charge}
+use Rattle.quantities.specs.Limits.{most-rate}
+use Rattle.tariff.specs.Vector.{vector-rate}
 
 -- so many of the equal steps of a rise are no more than the rise
 pub part-fits : (rise step steps : ℕ) → step ≤ steps → rise * step / steps ≤ rise
@@ -38,24 +31,3 @@ rate-fits f p fits =
     cond-both (leb 5000 f) _ _ P (λ e₂. omega (arith, leb-true 5000 f e₂, part-fits p (5005 - f) 5 (omega (arith, leb-true 5000 f e₂)))) (λ e₂.
     cond-both (leb 4985 f) _ _ P (λ e₃. omega (arith, part-fits (most-rate - p) (5000 - f) 15 (omega (arith, leb-true 4985 f e₃))))
     (λ _. omega arith)))
-
-pub side-bounded : (s : Side) (n : ℕ) → n ≤ most-charge → Bounded (on-side s n)
-side-bounded Payable n h = record { low = omega (arith, ints); high = omega (arith, ints) }
-side-bounded Receivable n h = record { low = omega (arith, ints); high = omega (arith, ints) }
-
-pub side-zero : (s : Side) (n : ℕ) → n ≡ 0 → on-side s n ≡ pos 0
-side-zero Payable n h = omega (arith, ints)
-side-zero Receivable n h = omega (arith, ints)
-
-pub vector-bounded : (f : Facts) → Within f → Bounded (vector-charge f)
-vector-bounded f w =
-    let v = vector-rate (f .hz100) (f .price) in
-    let fits : v ≤ most-rate = rate-fits (f .hz100) (f .price) (w .price-fits) in
-    let far : deviation f ≤ most-kwh = omega arith in
-    let m : v * deviation f ≤ most-rate * most-kwh = mul-le-mul fits far in
-    side-bounded (vector-side f) _ (omega arith)
-
-pub vector-level : (f : Facts) → f .metered ≡ f .scheduled → vector-charge f ≡ pos 0
-vector-level f e =
-    let k : deviation f ≤ 0 = omega arith in
-    side-zero (vector-side f) _ (omega (arith, mul-le-mul-left (vector-rate (f .hz100) (f .price)) k))

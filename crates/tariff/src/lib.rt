@@ -19,6 +19,7 @@ pub use ceiling::CeilingTariff;
 pub use extra::Extra;
 pub use extra::ExtraTariff;
 pub use traits::Tariff;
+pub use traits::charge_by;
 pub use vector::Vector;
 pub use vector::VectorTariff;
 pub use vector::vector_rate;

@@ -17,3 +17,12 @@ pub trait Tariff {
     fn charge(&self, facts: &BlockFacts) -> Paise
         ensures answer { λ r. ⌜ r .paise ≡ meaning (now (self .entry)) (plain (now (facts .entry))) ⌝ };
 }
+
+/// A tariff's charge, with what the laws say of it.
+pub fn charge_by<T: Tariff>(tariff: &T, facts: &BlockFacts) -> Paise
+    ensures answer { λ r. ⌜ r .paise ≡ T·Tariff .meaning (now (tariff .entry)) (plain (now (facts .entry))) ⌝ }
+    ensures bounded { λ r. ⌜ Bounded (r .paise) ⌝ }
+    ensures level { λ r. ⌜ (plain (now (facts .entry)) .metered ≡ plain (now (facts .entry)) .scheduled → r .paise ≡ pos 0) ⌝ }
+{
+    tariff.charge(facts)
+}

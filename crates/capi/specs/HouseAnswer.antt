@@ -1,0 +1,18 @@
+-- What the second supplier's C program is answered for one block. Assumes nothing.
+use Prim.Native.Nat.{ℕ, _+_}
+use lib.IntN.{ℤ, pos}
+use Rattle.std.specs.declared.result.Result.{Result}
+use Rattle.std.specs.declared.result.Result.the-variants.{Ok, Err}
+use Rattle.quantities.specs.Facts.{Facts}
+use Rattle.quantities.specs.Refusals.{refusal-number}
+use Rattle.quantities.specs.declared.refusals.FactsRefusal.{FactsRefusal}
+use Rattle.house.specs.Pile.{house-charge}
+
+-- a refusal's number is answered above this, where no charge lies
+abbrev pub refused : ℕ
+refused = 1000000000
+
+-- the charge in paise, or the number of the refusal
+abbrev pub house-answer : Result Facts FactsRefusal → ℤ
+house-answer (Ok f) = house-charge f
+house-answer (Err e) = pos (refused + refusal-number e)
