@@ -3,12 +3,12 @@ use Prim.Native.Nat.{ℕ, _+_}
 use lib.IntN.{ℤ, pos}
 use Rattle.std.specs.declared.result.Result.{Result}
 use Rattle.std.specs.declared.result.Result.the-variants.{Ok, Err}
-use Rattle.quantities.specs.Facts.{Facts}
-use Rattle.quantities.specs.Refusals.{refusal-number}
-use Rattle.quantities.specs.declared.refusals.FactsRefusal.{FactsRefusal}
+use Rattle.facts.specs.Facts.{Facts}
+use Rattle.facts.specs.Refusals.{refusal-number}
+use Rattle.facts.specs.declared.refusals.FactsRefusal.{FactsRefusal}
 use Rattle.house.specs.Pile.{house-charge}
 
--- a refusal's number is answered above this, where no charge lies
+-- a refusal's number is answered above this; charges lie within 100,000,000 either way
 abbrev pub refused : ℕ
 refused = 1000000000
 

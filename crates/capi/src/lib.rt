@@ -1,15 +1,11 @@
 //! The calls for C.
 ghost use Rattle.capi.specs.HouseAnswer.{house-answer};
-ghost use Rattle.quantities.specs.Limits.{most-charge};
-ghost use Rattle.quantities.specs.Refusals.{facts-from};
-ghost use Rattle.std.specs.Results.{isOk};
-ghost use lib.IntN.{pos};
-ghost use lib.Signed.{leZ};
+ghost use Rattle.facts.specs.Refusals.{facts-from};
 ghost use mathlib.Core.Path.{_≡_};
+use facts::BlockFacts;
 use house::house_charge;
-use quantities::BlockFacts;
 
-/// A refusal's number is answered above this, where no charge lies.
+/// A refusal's number is answered above this. No charge lies there.
 const REFUSED: i64 = 1_000_000_000;
 
 /// The house pile's charge for one block in paise: 1,000,000,003 for a kind outside 1 to 3, else
@@ -25,7 +21,6 @@ pub extern "C" fn niszorgy_house_charge(
     price: i64,
 ) -> i64
     ensures answer { λ r. ⌜ r ≡ house-answer (facts-from kind scheduled metered available frequency price) ⌝ }
-    ensures apart { λ r. ⌜ isOk (facts-from kind scheduled metered available frequency price) ≡ leZ r (pos most-charge) ⌝ }
 {
     match BlockFacts::from_numbers(kind, scheduled, metered, available, frequency, price) {
         Ok(facts) => house_charge(&facts).count(),

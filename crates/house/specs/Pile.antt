@@ -1,7 +1,7 @@
 -- What the house pile charges. Assumes nothing.
 use lib.IntN.{ℤ}
-use Rattle.quantities.specs.Facts.{Facts}
-use Rattle.quantities.specs.declared.kinds.Kind.the-variants.{SolarWind}
+use Rattle.facts.specs.Facts.{Facts}
+use Rattle.facts.specs.declared.kinds.Kind.the-variants.{SolarWind}
 use Rattle.tariff.specs.Bands.{bands-charge}
 use Rattle.tariff.specs.ByKind.{by-kind-charge}
 use Rattle.tariff.specs.Cap.{cap-charge}

@@ -1,12 +1,12 @@
 //! The house pile of tariffs.
 ghost use Prim.Native.Nat.{ℕ};
 ghost use Rattle.house.specs.Pile.{house-charge};
-ghost use Rattle.quantities.specs.Facts.{plain};
-ghost use Rattle.quantities.specs.declared.kinds.Kind.the-variants.{SolarWind};
+ghost use Rattle.facts.specs.Facts.{plain};
+ghost use Rattle.facts.specs.declared.kinds.Kind.the-variants.{SolarWind};
 ghost use Rattle.tariff.specs.Charges.{Bounded};
 ghost use mathlib.Core.Path.{_≡_};
-use quantities::BlockFacts;
-use quantities::Kind;
+use facts::BlockFacts;
+use facts::Kind;
 use quantities::Paise;
 use quantities::Rate;
 use tariff::Bands;

@@ -2,7 +2,7 @@
 use mathlib.Core.Bool.{cond}
 use Prim.Native.Nat.{ℕ, _*_, _/_}
 use lib.IntN.{ℤ}
-use Rattle.quantities.specs.Facts.{Facts, deviation}
+use Rattle.facts.specs.Facts.{Facts, deviation}
 use Rattle.quantities.specs.Money.{on-side}
 use Rattle.quantities.specs.declared.side.Side.the-variants.{Payable, Receivable}
 use Rattle.tariff.specs.Charges.{over-by}

@@ -1,7 +1,7 @@
 -- What a pile in an unusual order charges. Assumes nothing.
 use lib.IntN.{ℤ}
-use Rattle.quantities.specs.Facts.{Facts}
-use Rattle.quantities.specs.declared.kinds.Kind.the-variants.{Seller}
+use Rattle.facts.specs.Facts.{Facts}
+use Rattle.facts.specs.declared.kinds.Kind.the-variants.{Seller}
 use Rattle.tariff.specs.ByKind.{by-kind-charge}
 use Rattle.tariff.specs.Cap.{cap-charge}
 use Rattle.tariff.specs.Ceiling.{ceiling-charge}

@@ -1,6 +1,6 @@
 //! A tariff written outside the crate of tariffs: every deviation at one rate.
 ghost use Rattle.other_piles.specs.Flat.{flat-charge};
-use quantities::BlockFacts;
+use facts::BlockFacts;
 use quantities::KwhPartialOrd;
 use quantities::Paise;
 use quantities::Rate;

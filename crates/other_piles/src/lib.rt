@@ -1,18 +1,18 @@
 //! Piles other than the house's: the layers stand over any tariff, in any order.
 ghost use Prim.Native.Nat.{ℕ};
 ghost use Rattle.other_piles.specs.Pile.{unusual-charge};
-ghost use Rattle.quantities.specs.Facts.{plain};
-ghost use Rattle.quantities.specs.declared.kinds.Kind.the-variants.{Seller};
+ghost use Rattle.facts.specs.Facts.{plain};
+ghost use Rattle.facts.specs.declared.kinds.Kind.the-variants.{Seller};
 ghost use Rattle.tariff.specs.Charges.{Bounded};
 ghost use lib.IntN.{pos};
 ghost use mathlib.Core.Path.{_≡_};
 
 mod flat;
 
+use facts::BlockFacts;
+use facts::Kind;
 pub use flat::Flat;
 pub use flat::FlatTariff;
-use quantities::BlockFacts;
-use quantities::Kind;
 use quantities::Paise;
 use quantities::Rate;
 use tariff::ByKind;

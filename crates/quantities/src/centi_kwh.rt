@@ -6,10 +6,19 @@ use crate::Kwh;
 use crate::limits::MOST_KWH;
 
 /// At most 255 hundredths of the most energy of a block.
-#[derive(Clone, Copy, PartialEq, Eq, PartialOrd, Ord)]
+#[derive(Clone, Copy)]
 pub struct CentiKwh {
     pub(crate) hundredths: u32,
     ghost fits: { hundredths ≤ 255 * most-kwh },
+}
+
+/// So many hundredths of an energy of one block, in hundredths of a kWh.
+pub(crate) fn hundredths_of(kwh: u32, count: u8) -> u32
+    requires { ⌜ kwh ≤ most-kwh ⌝ }
+    ensures answer { λ r. ⌜ r ≡ count * kwh ⌝ }
+    ensures bound { λ r. ⌜ r ≤ 255 * most-kwh ⌝ }
+{
+    count as u32 * kwh
 }
 
 impl CentiKwh {
@@ -25,7 +34,11 @@ impl CentiKwh {
     pub fn at_most(self, top: CentiKwh) -> CentiKwh
         ensures answer { λ r. ⌜ r .hundredths ≡ min (self .hundredths) (top .hundredths) ⌝ }
     {
-        if top < self { top } else { self }
+        if top.hundredths < self.hundredths {
+            top
+        } else {
+            self
+        }
     }
 
     /// In whole kWh, rounded down and held at the limit.

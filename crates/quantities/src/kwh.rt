@@ -8,21 +8,25 @@ ghost use lib.IntN.{pos};
 ghost use mathlib.Core.Bool.{true, false};
 ghost use mathlib.Core.Path.{_≡_};
 use crate::CentiKwh;
+use crate::centi_kwh::hundredths_of;
 use crate::limits::MOST_KWH;
 use crate::limits::limited;
 use std::fmt;
 
 /// No energy beyond the limit of a block exists. Other crates compare and print an energy, and
-/// cannot read its count.
-#[derive(Clone, Copy, PartialEq, Eq, PartialOrd, Ord)]
+/// cannot read its count: so no count of energy becomes a rate or money but by a named product.
+#[derive(Clone, Copy, PartialEq, PartialOrd)]
 pub struct Kwh {
     pub(crate) kwh: u32,
     ghost fits: { kwh ≤ most-kwh },
 }
 
 impl Kwh {
-    /// The energy of a number that a row gives.
-    pub(crate) fn new(kwh: i64) -> Option<Kwh>
+    /// The most energy of a block.
+    pub const MOST: Kwh = Kwh { kwh: MOST_KWH };
+
+    /// The energy of a number that a row gives, none where it is outside the limits.
+    pub fn new(kwh: i64) -> Option<Kwh>
         ensures answer { λ r. ⌜ Cases r (within 0 most-kwh kwh ≡ false) (λ x. (within 0 most-kwh kwh ≡ true) × (kwh ≡ pos (x .kwh))) ⌝ }
     {
         match limited(kwh, 0, MOST_KWH) {
@@ -65,7 +69,7 @@ impl Kwh {
     }
 
     /// How far apart two energies are.
-    pub(crate) fn gap(self, other: Kwh) -> Kwh
+    pub fn gap(self, other: Kwh) -> Kwh
         ensures answer { λ r. ⌜ r .kwh ≡ (self .kwh - other .kwh) + (other .kwh - self .kwh) ⌝ }
     {
         Kwh {
@@ -78,7 +82,7 @@ impl Kwh {
         ensures answer { λ r. ⌜ r .hundredths ≡ hundredths * self .kwh ⌝ }
     {
         CentiKwh {
-            hundredths: hundredths as u32 * self.kwh,
+            hundredths: hundredths_of(self.kwh, hundredths),
         }
     }
 }

@@ -1,32 +1,21 @@
-//! The quantities of a deviation pool, and the facts of one block.
-mod block_facts;
+//! Energy, rates and money: three sorts of quantity, and the named products between them.
 mod centi_kwh;
-mod grid_row;
-mod kinds;
 mod kwh;
 mod limits;
 mod paise;
 mod products;
 mod rate;
-mod reading;
-mod refusals;
-mod rows;
 mod side;
 
-pub use block_facts::BlockFacts;
 pub use centi_kwh::CentiKwh;
-pub use grid_row::GridRow;
-pub use kinds::Kind;
-pub use kinds::KindPartialEq;
 pub use kwh::Kwh;
 pub use kwh::KwhDisplay;
-pub use kwh::KwhPartialEq;
 pub use kwh::KwhPartialOrd;
+pub use limits::LEAST_HZ100;
+pub use limits::MOST_HZ100;
+pub use limits::limited;
 pub use paise::Paise;
 pub use paise::PaiseDisplay;
-pub use paise::PaisePartialEq;
 pub use rate::Rate;
 pub use rate::RateDisplay;
-pub use reading::Reading;
-pub use refusals::FactsRefusal;
 pub use side::Side;

@@ -7,7 +7,7 @@ ghost use mathlib.Core.Path.{_≡_};
 use std::fmt;
 
 /// Other crates read the count to answer and to print it, and get money from named products alone.
-#[derive(Clone, Copy, PartialEq, Eq)]
+#[derive(Clone, Copy, PartialEq, PartialOrd)]
 pub struct Paise {
     pub(crate) paise: i64,
 }
@@ -22,7 +22,7 @@ impl Paise {
     pub fn at_most(self, top: Paise) -> Paise
         ensures answer { λ r. ⌜ r .paise ≡ minZ (self .paise) (top .paise) ⌝ }
     {
-        if top.paise < self.paise { top } else { self }
+        if top < self { top } else { self }
     }
 }
 
@@ -30,6 +30,6 @@ pub impl fmt::Display for Paise as PaiseDisplay {
     ghost shown = { λ x. Some (signed (x .paise)) };
 
     fn fmt<W: fmt::Write>(&self, f: &mut fmt::Formatter<W>) -> fmt::Result {
-        self.paise.fmt(f)
+        self.count().fmt(f)
     }
 }

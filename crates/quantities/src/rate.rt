@@ -11,7 +11,8 @@ use crate::limits::MOST_RATE;
 use crate::limits::limited;
 use std::fmt;
 
-/// No rate beyond the limit exists. Other crates use and print a rate, and cannot read its count.
+/// No rate beyond the limit exists. Other crates print a rate and cannot read its count: so no count
+/// of a rate becomes energy or money but by a named product.
 #[derive(Clone, Copy)]
 pub struct Rate {
     pub(crate) tenths: u32,
@@ -19,8 +20,8 @@ pub struct Rate {
 }
 
 impl Rate {
-    /// The price of a number that a row gives.
-    pub(crate) fn new(tenths: i64) -> Option<Rate>
+    /// The price of a number that a row gives, none where it is outside the limits.
+    pub fn new(tenths: i64) -> Option<Rate>
         ensures answer { λ r. ⌜ Cases r (within 0 most-rate tenths ≡ false) (λ x. (within 0 most-rate tenths ≡ true) × (tenths ≡ pos (x .tenths))) ⌝ }
     {
         match limited(tenths, 0, MOST_RATE) {

@@ -5,7 +5,7 @@ use native.Mathlib.Nat.{mul-le-mul, mul-le-mul-left}
 use native.Mathlib.Omega.{arith}
 use lib.IntN.{pos}
 use Rattle.std.proofs.shelf.Signed.{ints}
-use Rattle.quantities.specs.Facts.{Facts, Within, deviation}
+use Rattle.facts.specs.Facts.{Facts, Within, deviation}
 use Rattle.quantities.specs.Limits.{most-rate, most-kwh, most-charge}
 use Rattle.quantities.specs.Money.{on-side}
 use Rattle.quantities.specs.declared.side.Side.{Side}

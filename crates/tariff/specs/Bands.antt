@@ -1,7 +1,7 @@
 -- The deviation by bands of the available energy, payable whichever way it goes. Assumes nothing.
 use Prim.Native.Nat.{ℕ, _+_, _-_, _*_, _/_, min}
 use lib.IntN.{ℤ, pos}
-use Rattle.quantities.specs.Facts.{Facts, deviation}
+use Rattle.facts.specs.Facts.{Facts, deviation}
 
 -- the part of a deviation e between two hundredths of the available energy a, in hundredths of a kWh
 abbrev pub band : ℕ → ℕ → ℕ → ℕ → ℕ

@@ -3,9 +3,9 @@ use mathlib.Core.Bool.{cond, _&&_}
 use Prim.Native.Nat.{ℕ, _*_, _/_}
 use lib.IntN.{ℤ, pos}
 use Rattle.std.specs.Numbers.{minZ}
-use Rattle.quantities.specs.Facts.{Facts, deviation}
-use Rattle.quantities.specs.Kinds.{same-kind}
-use Rattle.quantities.specs.declared.kinds.Kind.the-variants.{Seller}
+use Rattle.facts.specs.Facts.{Facts, deviation}
+use Rattle.facts.specs.Kinds.{same-kind}
+use Rattle.facts.specs.declared.kinds.Kind.the-variants.{Seller}
 use Rattle.tariff.specs.Charges.{under-by}
 
 -- the rate c, and the charge below

@@ -2,9 +2,9 @@
 use mathlib.Core.Bool.{cond, _&&_}
 use Prim.Native.Nat.{_+_}
 use lib.IntN.{ℤ}
-use Rattle.quantities.specs.Facts.{Facts, with-metered}
-use Rattle.quantities.specs.Kinds.{same-kind}
-use Rattle.quantities.specs.declared.kinds.Kind.the-variants.{Seller}
+use Rattle.facts.specs.Facts.{Facts, with-metered}
+use Rattle.facts.specs.Kinds.{same-kind}
+use Rattle.facts.specs.declared.kinds.Kind.the-variants.{Seller}
 use Rattle.tariff.specs.Charges.{over-by}
 use Rattle.tariff.specs.Volume.{volume-limit}
 

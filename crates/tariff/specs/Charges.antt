@@ -5,7 +5,7 @@ use lib.Dec.{ltb}
 use lib.IntN.{ℤ, pos, negℤ}
 use lib.Signed.{_≤ℤ_}
 use Rattle.quantities.specs.Limits.{most-charge}
-use Rattle.quantities.specs.Facts.{Facts}
+use Rattle.facts.specs.Facts.{Facts}
 
 -- a charge lies within 100,000,000 paise either way
 pub record Bounded (z : ℤ) : Type 0 where

@@ -3,11 +3,11 @@ use mathlib.Core.Bool.{Bool, cond, _&&_}
 use Prim.Native.Nat.{ℕ, _-_, _*_, _/_}
 use lib.IntN.{ℤ, pos, _+ℤ_}
 use Rattle.std.specs.Numbers.{minZ}
-use Rattle.quantities.specs.Facts.{Facts, deviation}
-use Rattle.quantities.specs.Kinds.{same-kind}
+use Rattle.facts.specs.Facts.{Facts, deviation}
+use Rattle.facts.specs.Kinds.{same-kind}
 use Rattle.quantities.specs.Limits.{most-charge}
 use Rattle.quantities.specs.Money.{payable-in}
-use Rattle.quantities.specs.declared.kinds.Kind.the-variants.{Buyer, Seller}
+use Rattle.facts.specs.declared.kinds.Kind.the-variants.{Buyer, Seller}
 use Rattle.tariff.specs.Charges.{over-by, under-by}
 use Rattle.tariff.specs.Volume.{volume-limit}
 
@@ -21,8 +21,9 @@ past-limit f =
 abbrev pub extra-part : ℤ → Facts → ℕ
 extra-part charge f = payable-in charge * (deviation f - volume-limit f) / (5 * deviation f)
 
+-- with that part, held at the highest charge
+abbrev pub raised-charge : ℤ → Facts → ℤ
+raised-charge charge f = minZ (charge +ℤ pos (extra-part charge f)) (pos most-charge)
+
 abbrev pub extra-charge : (Facts → ℤ) → Facts → ℤ
-extra-charge below f =
-    cond (past-limit f)
-    (minZ (below f +ℤ pos (extra-part (below f) f)) (pos most-charge))
-    (below f)
+extra-charge below f = cond (past-limit f) (raised-charge (below f) f) (below f)

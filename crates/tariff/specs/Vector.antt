@@ -3,10 +3,10 @@ use mathlib.Core.Bool.{cond}
 use Prim.Native.Nat.{ℕ, _+_, _-_, _*_, _/_}
 use lib.Dec.{leb}
 use lib.IntN.{ℤ}
-use Rattle.quantities.specs.Facts.{Facts, deviation}
-use Rattle.quantities.specs.Kinds.{same-kind}
+use Rattle.facts.specs.Facts.{Facts, deviation}
+use Rattle.facts.specs.Kinds.{same-kind}
 use Rattle.quantities.specs.Money.{on-side}
-use Rattle.quantities.specs.declared.kinds.Kind.the-variants.{Buyer}
+use Rattle.facts.specs.declared.kinds.Kind.the-variants.{Buyer}
 use Rattle.quantities.specs.declared.side.Side.{Side}
 use Rattle.quantities.specs.declared.side.Side.the-variants.{Payable, Receivable}
 use Rattle.tariff.specs.Charges.{over-by, under-by}

@@ -1,7 +1,7 @@
 //! The deviation by bands of the available energy.
 ghost use Rattle.tariff.specs.Bands.{bands-charge};
 use crate::Tariff;
-use quantities::BlockFacts;
+use facts::BlockFacts;
 use quantities::Paise;
 use quantities::Rate;
 

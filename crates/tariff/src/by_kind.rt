@@ -1,9 +1,9 @@
 //! One tariff for a kind, and another for all others.
 ghost use Rattle.tariff.specs.ByKind.{by-kind-charge};
 use crate::Tariff;
-use quantities::BlockFacts;
-use quantities::Kind;
-use quantities::KindPartialEq;
+use facts::BlockFacts;
+use facts::Kind;
+use facts::KindPartialEq;
 use quantities::Paise;
 
 #[derive(Clone, Copy)]

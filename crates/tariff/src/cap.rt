@@ -1,9 +1,9 @@
 //! A cap on what a seller pays.
 ghost use Rattle.tariff.specs.Cap.{cap-charge};
 use crate::Tariff;
-use quantities::BlockFacts;
-use quantities::Kind;
-use quantities::KindPartialEq;
+use facts::BlockFacts;
+use facts::Kind;
+use facts::KindPartialEq;
 use quantities::KwhPartialOrd;
 use quantities::Paise;
 use quantities::Rate;

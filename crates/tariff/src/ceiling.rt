@@ -2,9 +2,9 @@
 ghost use Rattle.tariff.specs.Ceiling.{ceiling-charge};
 use crate::Tariff;
 use crate::volume_limit;
-use quantities::BlockFacts;
-use quantities::Kind;
-use quantities::KindPartialEq;
+use facts::BlockFacts;
+use facts::Kind;
+use facts::KindPartialEq;
 use quantities::KwhPartialOrd;
 use quantities::Paise;
 

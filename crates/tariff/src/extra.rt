@@ -1,11 +1,11 @@
 //! An extra charge past the volume limit.
-ghost use Rattle.quantities.specs.Facts.{plain};
-ghost use Rattle.tariff.specs.Extra.{past-limit, extra-charge};
+ghost use Rattle.facts.specs.Facts.{plain};
+ghost use Rattle.tariff.specs.Extra.{past-limit, raised-charge, extra-charge};
 ghost use mathlib.Core.Path.{_≡_};
 use crate::Tariff;
 use crate::volume_limit;
-use quantities::BlockFacts;
-use quantities::Kind;
+use facts::BlockFacts;
+use facts::Kind;
 use quantities::KwhPartialOrd;
 use quantities::Paise;
 
@@ -27,15 +27,22 @@ fn is_past_limit(facts: &BlockFacts) -> bool
     }
 }
 
+/// A charge with the part for the excess over the volume limit.
+fn with_extra(charge: Paise, facts: &BlockFacts) -> Paise
+    ensures answer { λ r. ⌜ r .paise ≡ raised-charge (charge .paise) (plain (now (facts .entry))) ⌝ }
+{
+    let deviation = facts.deviation();
+    let excess = deviation.less(volume_limit(facts));
+    charge.raised(excess.percent(20), deviation.percent(100))
+}
+
 pub impl<T: Tariff> Tariff for Extra<T> as ExtraTariff {
     ghost meaning = { λ t f. extra-charge (T·Tariff .meaning (t .below)) f };
 
     fn charge(&self, facts: &BlockFacts) -> Paise {
         let charge = self.below.charge(facts);
         if is_past_limit(facts) {
-            let deviation = facts.deviation();
-            let excess = deviation.less(volume_limit(facts));
-            charge.raised(excess.percent(20), deviation.percent(100))
+            with_extra(charge, facts)
         } else {
             charge
         }

@@ -1,9 +1,9 @@
 //! What a tariff is.
-ghost use Rattle.quantities.specs.Facts.{Facts, Within, plain};
+ghost use Rattle.facts.specs.Facts.{Facts, Within, plain};
 ghost use Rattle.tariff.specs.Charges.{Bounded};
 ghost use lib.IntN.{ℤ, pos};
 ghost use mathlib.Core.Path.{_≡_};
-use quantities::BlockFacts;
+use facts::BlockFacts;
 use quantities::Paise;
 
 /// One charge for each set of block facts. Nothing else counts, and no facts are refused.

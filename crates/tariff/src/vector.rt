@@ -1,11 +1,11 @@
 //! The deviation at a rate that follows the frequency.
-ghost use Rattle.quantities.specs.Facts.{plain};
+ghost use Rattle.facts.specs.Facts.{plain};
 ghost use Rattle.tariff.specs.Vector.{vector-rate, vector-side, vector-charge};
 ghost use mathlib.Core.Path.{_≡_};
 use crate::Tariff;
-use quantities::BlockFacts;
-use quantities::Kind;
-use quantities::KindPartialEq;
+use facts::BlockFacts;
+use facts::Kind;
+use facts::KindPartialEq;
 use quantities::KwhPartialOrd;
 use quantities::Paise;
 use quantities::Rate;

@@ -1,14 +1,7 @@
--- The limit by its definition.
-use borrow.Author.Needs.{needs}
-use native.Mathlib.Omega.{arith}
-use Rattle.std.proofs.shelf.Ways.{tells}
+-- The limit that holds is the one by schedule.
 use Rattle.tariff.specs.Volume.{volume-limit}
 use Rattle.tariff.proofs.volume.volume_limit.Needs as need
 
-pub returns-then-le : need.returns-then-le
+pub returns : need.returns
 unfolding volume-limit
-returns-then-le c = search needs
-
-pub returns-else-le : need.returns-else-le
-unfolding volume-limit
-returns-else-le c = search needs
+returns c = record { answer = c .limit-by-schedule .ensures .answer }

@@ -1,0 +1,3 @@
+pub mod Kinds
+pub mod Facts
+pub mod Refusals

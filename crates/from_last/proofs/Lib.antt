@@ -1,0 +1,2 @@
+-- Lemmas of from_last. Assumes nothing.
+pub mod FromLastLaw

@@ -1,0 +1,2 @@
+-- What the contracts of from_last cite. Assumes nothing.
+pub mod FromLast

@@ -1,0 +1,52 @@
+//! The independent host: compares the proved library with the rules written in plain Rust.
+
+mod draws;
+mod facts;
+mod house;
+mod parting;
+mod random;
+mod speed;
+mod tariffs;
+mod worked;
+
+use std::process::ExitCode;
+
+const USAGE: &str = "usage: host compare [COUNT] | host speed | host worked_examples";
+const MISSING: &str =
+    "host: the library target/staticlib/libcapi.a was missing when the host was built; \
+                       build it, then the host again";
+
+fn main() -> ExitCode {
+    let words: Vec<String> = std::env::args().skip(1).collect();
+    let words: Vec<&str> = words.iter().map(String::as_str).collect();
+    let done = match words[..] {
+        ["compare"] => with_library(|proved| house::run(proved, 10_000_000)),
+        ["compare", count] => match count.parse() {
+            Ok(count) => with_library(|proved| house::run(proved, count)),
+            Err(_) => fail(USAGE),
+        },
+        ["speed"] => with_library(speed::run),
+        ["worked_examples"] => {
+            print!("{}", worked::text());
+            true
+        }
+        _ => fail(USAGE),
+    };
+    if done {
+        ExitCode::SUCCESS
+    } else {
+        ExitCode::FAILURE
+    }
+}
+
+fn with_library(run: impl FnOnce(house::HouseCall) -> bool) -> bool {
+    match house::PROVED {
+        Some(proved) => run(proved),
+        None => fail(MISSING),
+    }
+}
+
+fn fail(message: &str) -> bool {
+    eprintln!("{message}");
+    false
+}
