@@ -6,6 +6,8 @@ mod worked;
 
 pub use largest_remainder::LargestRemainder;
 pub use largest_remainder::LargestRemainderRule;
+pub use rule::MOST_AMOUNT;
+pub use rule::MOST_TOTAL;
 pub use rule::MOST_WEIGHTS;
 pub use rule::PartingRule;
 pub use running::Running;

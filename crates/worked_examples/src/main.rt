@@ -1,5 +1,8 @@
 //! Works the examples out, and prints each with what came and what should come.
+mod asked;
 mod by_hand;
+mod seeded;
+mod sums;
 
 use by_hand::bands_at;
 use by_hand::limit_at;
@@ -22,7 +25,9 @@ fn run(rt: &impl Print) -> Result<(), AnyError> {
     limits(rt)?;
     bands(rt)?;
     sellers(rt)?;
-    another_pile(rt)
+    another_pile(rt)?;
+    sums::by_hand(rt)?;
+    sums::from_seed(rt)
 }
 
 fn rates(rt: &impl Print) -> Result<(), AnyError> {
