@@ -6,15 +6,17 @@ mod house;
 mod parting;
 mod random;
 mod speed;
+mod sums;
 mod tariffs;
 mod worked;
 
 use std::process::ExitCode;
 
-const USAGE: &str = "usage: host compare [COUNT] | host speed | host worked_examples";
+const USAGE: &str =
+    "usage: host compare [COUNT] | host parting | host speed | host worked_examples";
 const MISSING: &str =
-    "host: the library target/staticlib/libcapi.a was missing when the host was built; \
-                       build it, then the host again";
+    "host: target/staticlib/libcapi.a or libhost_calls.a was missing when the host \
+                       was built; build them, then the host again";
 
 fn main() -> ExitCode {
     let words: Vec<String> = std::env::args().skip(1).collect();
@@ -25,7 +27,8 @@ fn main() -> ExitCode {
             Ok(count) => with_library(|proved| house::run(proved, count)),
             Err(_) => fail(USAGE),
         },
-        ["speed"] => with_library(speed::run),
+        ["parting"] => with_rules(|proved| sums::run(proved, 1_000_000)),
+        ["speed"] => with_library(speed::run) && with_rules(sums::speed),
         ["worked_examples"] => {
             print!("{}", worked::text());
             true
@@ -41,6 +44,13 @@ fn main() -> ExitCode {
 
 fn with_library(run: impl FnOnce(house::HouseCall) -> bool) -> bool {
     match house::PROVED {
+        Some(proved) => run(proved),
+        None => fail(MISSING),
+    }
+}
+
+fn with_rules(run: impl FnOnce(sums::Proved) -> bool) -> bool {
+    match sums::PROVED {
         Some(proved) => run(proved),
         None => fail(MISSING),
     }

@@ -1,7 +1,9 @@
 -- What a parting rule may be asked, and the law that its shares keep. Assumes nothing.
 use Prim.Native.Nat.{ℕ, _+_, _-_, _*_, _<_, _≤_}
 use mathlib.Core.Path.{_≡_}
+use mathlib.Core.Bool.{Bool, _&&_}
 use mathlib.Core.List.{List}
+use lib.Dec.{leb}
 use lib.ListN.{length, getD}
 use Rattle.std.specs.shelf.Lists.{sum}
 
@@ -23,6 +25,12 @@ pub record Asked (amount : ℕ) (weights : List ℕ) : Type 0 where
   pub few : length weights ≤ most-weights
   pub weighs : 1 ≤ sum weights
   pub total-most : sum weights ≤ most-total
+
+-- the same as a test
+abbrev pub may-ask : ℕ → List ℕ → Bool
+may-ask amount weights =
+    leb amount most-amount
+    && (leb (length weights) most-weights && (leb 1 (sum weights) && leb (sum weights) most-total))
 
 -- how far two numbers are apart
 abbrev pub apart : ℕ → ℕ → ℕ

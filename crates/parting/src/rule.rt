@@ -6,10 +6,10 @@ ghost use lib.ListN.{length};
 ghost use Rattle.parting.specs.Rule.{Asked, Parted};
 
 /// The largest sum, in paise.
-pub const MOST_AMOUNT: u64 = 3_000_000_000;
+pub(crate) const MOST_AMOUNT: u64 = 3_000_000_000;
 
 /// The largest total of the weights.
-pub const MOST_TOTAL: u64 = 3_000_000_000;
+pub(crate) const MOST_TOTAL: u64 = 3_000_000_000;
 
 /// The most weights that a rule is asked to part by.
 pub const MOST_WEIGHTS: usize = 16;

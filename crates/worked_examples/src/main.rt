@@ -1,5 +1,4 @@
 //! Works the examples out, and prints each with what came and what should come.
-mod asked;
 mod by_hand;
 mod seeded;
 mod sums;

@@ -1,7 +1,6 @@
 //! Prints sums parted by both rules.
 ghost use Prim.Native.Nat.{ℕ, _≤_};
 ghost use lib.ListN.{length};
-use crate::asked::part_if_asked;
 use crate::seeded::Generator;
 use parting::LargestRemainder;
 use parting::LargestRemainderRule;
@@ -9,6 +8,7 @@ use parting::MOST_WEIGHTS;
 use parting::PartingRule;
 use parting::Running;
 use parting::RunningRule;
+use parting::part_if_asked;
 use parting::payables_by_largest_remainder;
 use parting::ten_by_largest_remainder;
 use parting::ten_by_running;
