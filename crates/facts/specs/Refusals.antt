@@ -1,6 +1,8 @@
 -- Which numbers of a call are the facts of a block, and what others are refused with. Assumes nothing.
 use mathlib.Core.Bool.{Bool, cond, _&&_}
+use mathlib.Core.List.{List}
 use Prim.Native.Nat.{ℕ}
+use lib.Chars.{codes}
 use lib.IntN.{ℤ, natAbs}
 use Rattle.std.specs.declared.option.Option.{Option}
 use Rattle.std.specs.declared.option.Option.the-variants.{Some, None}
@@ -16,6 +18,11 @@ use Rattle.facts.specs.declared.refusals.FactsRefusal.the-variants.{UnknownKin
 abbrev pub refusal-number : FactsRefusal → ℕ
 refusal-number UnknownKind = 3
 refusal-number OutsideLimit = 4
+
+-- what is said of a refusal
+abbrev pub refusal-words : FactsRefusal → List ℕ
+refusal-words UnknownKind = codes "the kind is none of those that deviate"
+refusal-words OutsideLimit = codes "a number is outside its limit"
 
 -- scheduled, metered and available energy of a kind
 abbrev pub reading-fits : Kind → ℤ → ℤ → ℤ → Bool

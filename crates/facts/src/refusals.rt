@@ -1,5 +1,6 @@
 //! What facts given as plain numbers are refused with.
-ghost use Rattle.facts.specs.Refusals.{refusal-number};
+ghost use Rattle.facts.specs.Refusals.{refusal-number, refusal-words};
+ghost use Rattle.std.specs.declared.option.Option.the-variants.{Some};
 ghost use lib.IntN.{pos};
 ghost use mathlib.Core.Path.{_≡_};
 use std::error::Error;
@@ -22,16 +23,22 @@ impl FactsRefusal {
             FactsRefusal::OutsideLimit => 4,
         }
     }
+
+    fn words(self) -> &'static str
+        ensures answer { λ r. ⌜ now r ≡ refusal-words self ⌝ }
+    {
+        match self {
+            FactsRefusal::UnknownKind => "the kind is none of those that deviate",
+            FactsRefusal::OutsideLimit => "a number is outside its limit",
+        }
+    }
 }
 
 pub impl fmt::Display for FactsRefusal as FactsRefusalDisplay {
+    ghost shown = { λ e. Some (refusal-words e) };
+
     fn fmt<W: fmt::Write>(&self, f: &mut fmt::Formatter<W>) -> fmt::Result {
-        f.write_str(
-            match self {
-                FactsRefusal::UnknownKind => "the kind is none of those that deviate",
-                FactsRefusal::OutsideLimit => "a number is outside its limit",
-            },
-        )
+        self.words().fmt(f)
     }
 }
 
