@@ -271,9 +271,8 @@ pub fn read_folder(folder: &Path) -> io::Result<String> {
     let mut sheets = Vec::new();
     for sheet in Sheet::ALL {
         let path = folder.join(format!("{}.csv", sheet.word()));
-        let named = |error: io::Error| {
-            io::Error::new(error.kind(), format!("{}: {error}", path.display()))
-        };
+        let named =
+            |error: io::Error| io::Error::new(error.kind(), format!("{}: {error}", path.display()));
         sheets.push((sheet, bytes_of(&path).map_err(named)?));
     }
     Ok(text(&sheets))
@@ -359,7 +358,10 @@ impl Tally {
 /// The count of rows and the wrapping sum of all numbers of an outcome.
 fn counted(outcome: &Outcome) -> Result<(u64, u64), Fault> {
     let rows = outcome.as_ref().map_err(|fault| *fault)?;
-    let sum = rows.iter().flatten().fold(0, |sum: u64, n| sum.wrapping_add(*n));
+    let sum = rows
+        .iter()
+        .flatten()
+        .fold(0, |sum: u64, n| sum.wrapping_add(*n));
     Ok((rows.len() as u64, sum))
 }
 
@@ -390,7 +392,9 @@ fn differences(theirs: SheetCall, drawn: &Drawn, own: &Outcome) -> Vec<String> {
     let plain = plain_count(drawn.sheet, &drawn.bytes);
     if plain != counted(own) {
         let own = counted(own);
-        all.push(format!("the host's plain count {plain:?}, its reader {own:?}"));
+        all.push(format!(
+            "the host's plain count {plain:?}, its reader {own:?}"
+        ));
     }
     if let Some(rows) = drawn.rows.clone().map(Ok) {
         if rows != *own {
@@ -418,7 +422,9 @@ fn compare(theirs: SheetCall, wanted: usize) -> Tally {
             tally.different += 1;
         }
         if !differences.is_empty() && tally.different <= 10 {
-            let Drawn { sheet, bytes, ways, .. } = &drawn;
+            let Drawn {
+                sheet, bytes, ways, ..
+            } = &drawn;
             let start = bytes[..bytes.len().min(240)].escape_ascii();
             println!("{sheet:?}, {ways:?}, {} bytes: \"{start}\"", bytes.len());
             println!("    {}", differences.join("; "));

@@ -17,7 +17,10 @@ fn total_of(weights: &[u64]) -> u64
 {
     let mut total = 0u64;
     for weight in weights {
-        total = total.saturating_add(*weight);
+        let Some(more) = total.checked_add(*weight) else {
+            return u64::MAX;
+        };
+        total = more;
     }
     total
 }
