@@ -1,3 +1,4 @@
 pub mod Kinds
 pub mod Facts
 pub mod Refusals
+pub mod Rows
