@@ -180,100 +180,108 @@ fn plain_rows<const N: usize>(
     if bytes.last() != Some(&b'\n') {
         return Err(sheet.fault(0, 0, 22));
     }
-    let start = if bytes.starts_with(&MARK) { 3 } else { 0 };
-    let Some((may_be_empty, mut at)) = plain_names(names, bytes, start) else {
+    let text = bytes.strip_prefix(&MARK).unwrap_or(bytes);
+    let Some((may_be_empty, mut rest)) = plain_names(names, text) else {
         return Err(sheet.fault(1, 0, 23));
     };
     let (mut rows, mut sum) = (0_u64, 0_u64);
-    // The last byte ends a line, so no line and no cell runs over the end.
-    while at < bytes.len() {
-        let line = at;
-        for cell in 0..N {
-            let first = at;
+    while !rest.is_empty() {
+        let line = rest;
+        for (cell, may_be_empty_here) in may_be_empty.iter().enumerate() {
+            let start = rest;
             let mut value = 0_u64;
-            let end = loop {
-                let byte = bytes[at];
+            let mut end = 0;
+            while let [byte, after @ ..] = rest {
+                rest = after;
                 let digit = byte.wrapping_sub(b'0');
                 if digit > 9 {
-                    break byte;
+                    end = *byte;
+                    break;
                 }
                 value = value.wrapping_mul(10).wrapping_add(u64::from(digit));
-                at += 1;
-            };
-            let well_formed = match at - first {
-                0 => may_be_empty[cell],
+            }
+            // The sheet ends with 0A, so that a byte which is no digit has been met.
+            let well_formed = match start.len() - rest.len() - 1 {
+                0 => *may_be_empty_here,
                 1 => true,
-                length => length <= 10 && bytes[first] != b'0',
+                length => length <= 10 && start[0] != b'0',
             };
-            let wanted = if cell + 1 < N { b',' } else { b'\n' };
-            if !well_formed || end != wanted {
-                let (line, cell, number) = plain_fault(&bytes[line..], &may_be_empty, rows + 2);
-                return Err(sheet.fault(line, cell, number));
+            if !well_formed || end != end_of(cell, N) {
+                let (cell, number) = plain_fault(line, &may_be_empty);
+                return Err(sheet.fault(rows + 2, cell, number));
             }
             sum = sum.wrapping_add(value);
-            at += 1;
         }
         rows += 1;
     }
     Ok((rows, sum))
 }
 
-/// For each cell of a value line whether it may be empty, and where the first value line starts.
+/// The byte after a cell of a line with so many cells.
 #[inline(always)]
-fn plain_names<const N: usize>(
+fn end_of(cell: usize, cells: usize) -> u8 {
+    if cell + 1 < cells {
+        b','
+    } else {
+        b'\n'
+    }
+}
+
+/// For each cell of a value line whether it may be empty, and the bytes after the names line.
+#[inline(always)]
+fn plain_names<'a, const N: usize>(
     names: &[Name; N],
-    bytes: &[u8],
-    start: usize,
-) -> Option<([bool; N], usize)> {
+    text: &'a [u8],
+) -> Option<([bool; N], &'a [u8])> {
     let mut may_be_empty = [false; N];
     let mut seen = [false; N];
-    let mut at = start;
-    for cell in 0..N {
-        let first = at;
-        while bytes[at] != b',' && bytes[at] != b'\n' {
-            at += 1;
-        }
-        let name = &bytes[first..at];
-        let place = names.iter().position(|(own, _)| own.as_bytes() == name)?;
-        let wanted = if cell + 1 < N { b',' } else { b'\n' };
-        if seen[place] || bytes[at] != wanted {
+    let mut rest = text;
+    for (cell, may_be_empty_here) in may_be_empty.iter_mut().enumerate() {
+        let stands_here = |(name, _): &Name| {
+            let after = rest.strip_prefix(name.as_bytes());
+            after.is_some_and(|after| after.first() == Some(&end_of(cell, N)))
+        };
+        let place = names.iter().position(stands_here)?;
+        if seen[place] {
             return None;
         }
         seen[place] = true;
-        may_be_empty[cell] = names[place].1;
-        at += 1;
+        *may_be_empty_here = names[place].1;
+        rest = &rest[names[place].0.len() + 1..];
     }
-    Some((may_be_empty, at))
+    Some((may_be_empty, rest))
 }
 
-/// The line, cell and number of the fault of a line that has one. The bytes start with the line.
+/// The cell and number of the fault of a line that has one. The bytes start with this line.
 #[cold]
 #[inline(never)]
-fn plain_fault(bytes: &[u8], may_be_empty: &[bool], line: u64) -> (u64, u64, u64) {
-    let bytes = bytes.split(|byte| *byte == b'\n').next().unwrap_or(bytes);
-    let cells = || bytes.split(|byte| *byte == b',');
+fn plain_fault(bytes: &[u8], may_be_empty: &[bool]) -> (u64, u64) {
+    let line = bytes.split(|byte| *byte == b'\n').next().unwrap_or(bytes);
+    let cells = || line.split(|byte| *byte == b',');
     if cells().count() == may_be_empty.len() {
         for ((at, cell), may_be_empty) in (1..).zip(cells()).zip(may_be_empty) {
             match Cell::of(cell) {
-                Cell::Empty if !may_be_empty => return (line, at, 25),
-                Cell::Other => return (line, at, 26),
+                Cell::Empty if !may_be_empty => return (at, 25),
+                Cell::Other => return (at, 26),
                 _ => (),
             }
         }
     }
-    (line, 0, 24)
+    (0, 24)
 }
 
 /// Reads the three sheets of a folder, of which a missing one is empty: the first fault as it is
 /// printed, or for each sheet its count of value lines.
 pub fn read_folder(folder: &Path) -> io::Result<String> {
-    folder.read_dir()?;
+    let named = |path: &Path, error: io::Error| {
+        io::Error::new(error.kind(), format!("{}: {error}", path.display()))
+    };
+    folder.read_dir().map_err(|error| named(folder, error))?;
     let mut sheets = Vec::new();
     for sheet in Sheet::ALL {
         let path = folder.join(format!("{}.csv", sheet.word()));
-        let named =
-            |error: io::Error| io::Error::new(error.kind(), format!("{}: {error}", path.display()));
-        sheets.push((sheet, bytes_of(&path).map_err(named)?));
+        let bytes = bytes_of(&path).map_err(|error| named(&path, error))?;
+        sheets.push((sheet, bytes));
     }
     Ok(text(&sheets))
 }
@@ -333,14 +341,10 @@ impl Tally {
         }
     }
 
-    fn way(&self, name: &str) -> u64 {
-        self.ways.get(name).copied().unwrap_or(0)
-    }
-
     fn print(&self) {
         println!("sheets: {}, of them edges: {}", self.asked, self.edges);
-        for name in sheet_draws::names() {
-            println!("{name}: {}", self.way(name));
+        for (name, count) in &self.ways {
+            println!("{name}: {count}");
         }
         for outcome in 0..7 {
             let [members, grid, readings] = self.outcomes.map(|counts| counts[outcome]);
@@ -411,6 +415,7 @@ fn compare(theirs: SheetCall, wanted: usize) -> Tally {
     let edges = sheet_draws::edges();
     let mut tally = Tally {
         edges: edges.len().min(wanted) as u64,
+        ways: sheet_draws::ways().map(|name| (name, 0)).collect(),
         ..Tally::default()
     };
     let random = std::iter::repeat_with(|| sheet_draws::any(&mut generator));
@@ -444,4 +449,289 @@ pub fn run(theirs: SheetCall, wanted: usize) -> bool {
         println!("host sheets: {alike} alike");
     }
     tally.different == 0
+}
+
+#[cfg(test)]
+mod tests {
+    use super::*;
+
+    fn fault(sheet: Sheet, bytes: &[u8]) -> String {
+        let own = read(sheet, bytes);
+        assert_eq!(plain_count(sheet, bytes), counted(&own));
+        own.expect_err("a fault").to_string()
+    }
+
+    fn rows(sheet: Sheet, bytes: &[u8]) -> Vec<Vec<u64>> {
+        let own = read(sheet, bytes);
+        assert_eq!(plain_count(sheet, bytes), counted(&own));
+        own.expect("no fault")
+    }
+
+    fn members(bytes: &[u8]) -> String {
+        fault(Sheet::Members, bytes)
+    }
+
+    fn grid(bytes: &[u8]) -> String {
+        fault(Sheet::Grid, bytes)
+    }
+
+    /// A grid of this line 1 and so many good lines, then these bytes.
+    fn grid_of(names: &str, lines: usize, rest: &str) -> Vec<u8> {
+        let lines: String = (0..lines)
+            .map(|block| format!("{block},5000,4000\n"))
+            .collect();
+        format!("{names}{lines}{rest}").into_bytes()
+    }
+
+    #[test]
+    fn the_three_cases_of_a_cell() {
+        assert_eq!(Cell::of(b""), Cell::Empty);
+        assert_eq!(Cell::of(b"0"), Cell::Number(0));
+        assert_eq!(Cell::of(b"10"), Cell::Number(10));
+        assert_eq!(Cell::of(b"9999999999"), Cell::Number(9_999_999_999));
+        let others: [&[u8]; 14] = [
+            b"007",
+            b"00",
+            b"-5",
+            b"+5",
+            b"5.0",
+            b" ",
+            b"12345678901",
+            b"5\r",
+            b" 5",
+            b"5 ",
+            b"\"5\"",
+            b"\0",
+            b"\xEF\xBB\xBF5",
+            b"00000000001",
+        ];
+        for other in others {
+            assert_eq!(Cell::of(other), Cell::Other, "{}", other.escape_ascii());
+        }
+    }
+
+    #[test]
+    fn the_examples_of_the_rules() {
+        const NAMES: &str = "block,hz100,price\n";
+        let too_long = grid_of(NAMES, 65_537 / 8, "");
+        assert_eq!(grid(&too_long[..65_537]), "2,0,0,21");
+        assert_eq!(members(b""), "1,0,0,22");
+        assert_eq!(members(b"kind,pays,gets\n1,,\n2,,"), "1,0,0,22");
+        assert_eq!(grid(&grid_of("block,hz100\n", 4, "")), "2,1,0,23");
+        assert_eq!(grid(&grid_of("block,hz100,hz100\n", 4, "")), "2,1,0,23");
+        assert_eq!(grid(&grid_of("Block,hz100,price\n", 4, "")), "2,1,0,23");
+        assert_eq!(grid(&grid_of("block,hz100,price\r\n", 4, "")), "2,1,0,23");
+        assert_eq!(
+            grid(&grid_of(NAMES, 3, "3,5000\n4,5000,4000\n")),
+            "2,5,0,24"
+        );
+        assert_eq!(grid(&grid_of(NAMES, 3, "\n4,5000,4000\n")), "2,5,0,24");
+        assert_eq!(members(b"kind,pays,gets\n,x,\n"), "1,2,1,25");
+        assert_eq!(grid(&grid_of(NAMES, 7, "x,,4000\n")), "2,9,1,26");
+        let mut readings = b"member,block,scheduled,metered,available\n".to_vec();
+        for block in 0..15 {
+            readings.extend(format!("0,{block},1000,1000,\n").into_bytes());
+        }
+        readings.extend(b"0,15,1000,1O00,\n0,16,1000,1000,\n");
+        assert_eq!(fault(Sheet::Readings, &readings), "3,17,4,26");
+    }
+
+    #[test]
+    fn the_faults_in_their_order() {
+        // The length comes before the last byte, and this before the names.
+        assert_eq!(grid(&[b'x'; 65_537]), "2,0,0,21");
+        assert_eq!(grid(&[b'x'; 65_536]), "2,0,0,22");
+        assert_eq!(grid(b"x"), "2,0,0,22");
+        assert_eq!(grid(b"\xEF\xBB\xBF"), "2,0,0,22");
+        // The names come before the lines.
+        assert_eq!(grid(b"\n"), "2,1,0,23");
+        assert_eq!(grid(b"\xEF\xBB\xBF\n"), "2,1,0,23");
+        assert_eq!(grid(b"\nblock,hz100,price\n"), "2,1,0,23");
+        assert_eq!(grid(b"block,hz100,price,\n1\n"), "2,1,0,23");
+        assert_eq!(grid(b"block,hz100,price,price\n"), "2,1,0,23");
+        assert_eq!(grid(b"block, hz100,price\n"), "2,1,0,23");
+        assert_eq!(grid(b"\xEF\xBBblock,hz100,price\n"), "2,1,0,23");
+        assert_eq!(
+            grid(b"\xEF\xBB\xBF\xEF\xBB\xBFblock,hz100,price\n"),
+            "2,1,0,23"
+        );
+        // In a line the count comes first, then the leftmost cell; an earlier line comes first.
+        assert_eq!(grid(b"block,hz100,price\nx,\n"), "2,2,0,24");
+        assert_eq!(grid(b"block,hz100,price\n1,2,3,\n"), "2,2,0,24");
+        assert_eq!(grid(b"block,hz100,price\n1,2,3\n\n"), "2,3,0,24");
+        assert_eq!(grid(b"block,hz100,price\n1,2,x\n1,2\n"), "2,2,3,26");
+        assert_eq!(grid(b"block,hz100,price\n1,,x\n"), "2,2,2,25");
+        assert_eq!(grid(b"block,hz100,price\n1,x,\n"), "2,2,2,26");
+        assert_eq!(grid(b"block,hz100,price\n1,2,3\r\n"), "2,2,3,26");
+        // Cells are counted as they stand in the sheet.
+        assert_eq!(members(b"gets,pays,kind\n,,\n"), "1,2,3,25");
+        assert_eq!(members(b"pays,kind,gets\n,,\n"), "1,2,2,25");
+        assert_eq!(members(b"pays,kind,gets\n,1, \n"), "1,2,3,26");
+    }
+
+    #[test]
+    fn rows_stand_in_the_order_of_the_table() {
+        assert!(rows(Sheet::Grid, b"block,hz100,price\n").is_empty());
+        assert!(rows(Sheet::Grid, b"\xEF\xBB\xBFprice,hz100,block\n").is_empty());
+        assert_eq!(
+            rows(Sheet::Grid, b"price,block,hz100\n1,2,3\n"),
+            [[2, 3, 1]]
+        );
+        assert_eq!(
+            rows(Sheet::Members, b"gets,kind,pays\n,4,\n7,1,0\n"),
+            [[4, 0, 0], [1, 0, 7]]
+        );
+        let readings =
+            b"\xEF\xBB\xBFavailable,metered,scheduled,block,member\n,9999999999,0,95,15\n";
+        assert_eq!(
+            rows(Sheet::Readings, readings),
+            [[15, 95, 0, 9_999_999_999, 0]]
+        );
+    }
+
+    #[test]
+    fn the_most_bytes() {
+        let lines = "1,2,3\n".repeat(10_917);
+        let mut sheet = format!("\u{feff}block,hz100,price\n{lines}1,2,33333333\n").into_bytes();
+        assert_eq!(sheet.len(), MOST_BYTES);
+        assert_eq!(rows(Sheet::Grid, &sheet).len(), 10_918);
+        assert_eq!(rows(Sheet::Grid, &sheet)[10_917], [1, 2, 33_333_333]);
+        sheet[MOST_BYTES - 2] = b'x';
+        assert_eq!(grid(&sheet), "2,10919,3,26");
+        sheet[MOST_BYTES - 1] = b'x';
+        assert_eq!(grid(&sheet), "2,0,0,22");
+        sheet.push(b'\n');
+        assert_eq!(grid(&sheet), "2,0,0,21");
+    }
+
+    #[test]
+    fn every_way_and_every_fault_is_met_many_times() {
+        let tally = compare(read, 100_000);
+        assert_eq!(tally.different, 0);
+        for way in sheet_draws::ways() {
+            assert!(tally.ways[way] > 500, "{way}: {}", tally.ways[way]);
+        }
+        for counts in tally.outcomes {
+            assert!(counts.iter().all(|count| *count > 20), "{counts:?}");
+        }
+        assert!(run(read, 1_000) && !run(|_, _| Ok(Vec::new()), 1_000));
+    }
+
+    /// The bytes with each of these texts replaced.
+    fn replaced(bytes: &[u8], from: &[u8], to: &[u8]) -> Vec<u8> {
+        let mut out = Vec::new();
+        let mut rest = bytes;
+        while let Some(first) = rest.first() {
+            match rest.strip_prefix(from) {
+                Some(after) => {
+                    out.extend_from_slice(to);
+                    rest = after;
+                }
+                None => {
+                    out.push(*first);
+                    rest = &rest[1..];
+                }
+            }
+        }
+        out
+    }
+
+    /// Readers that err in one respect each.
+    const WRONG: [(&str, SheetCall); 15] = [
+        ("0D is skipped", |s, b| {
+            read(s, &replaced(b, b"\r\n", b"\n"))
+        }),
+        ("blanks are skipped", |s, b| {
+            read(s, &replaced(b, b" ", b""))
+        }),
+        ("a plus is skipped", |s, b| read(s, &replaced(b, b"+", b""))),
+        ("quotes are skipped", |s, b| {
+            read(s, &replaced(b, b"\"", b""))
+        }),
+        ("a leading zero is skipped", |s, b| {
+            read(s, &replaced(b, b",0", b","))
+        }),
+        ("empty lines are skipped", |s, b| {
+            read(s, &replaced(b, b"\n\n", b"\n"))
+        }),
+        ("the mark is skipped anywhere", |s, b| {
+            read(s, &replaced(b, &MARK, b""))
+        }),
+        ("the mark is not skipped", |s, b| {
+            match b.starts_with(&MARK) {
+                true => Err(s.fault(1, 0, 23)),
+                false => read(s, b),
+            }
+        }),
+        ("the mark does not count", |s, b| {
+            match b.strip_prefix(&MARK) {
+                Some(rest) => read(s, rest),
+                None => read(s, b),
+            }
+        }),
+        ("a last 0A may be missing", |s, b| match b.last() {
+            Some(b'\n') | None => read(s, b),
+            Some(_) => read(s, &[b, b"\n"].concat()),
+        }),
+        ("names in any case", |s, b| read(s, &b.to_ascii_lowercase())),
+        ("65,536 bytes are too many", |s, b| match b.len() {
+            65_536 => Err(s.fault(0, 0, 21)),
+            _ => read(s, b),
+        }),
+        ("only two cells are tested", |s, b| match read(s, b) {
+            Err(fault) if fault.cell > 2 => Err(s.fault(fault.line, 2, fault.number)),
+            outcome => outcome,
+        }),
+        ("lines are counted without the names", |s, b| {
+            match read(s, b) {
+                Err(fault) if fault.line > 1 => {
+                    Err(s.fault(fault.line - 1, fault.cell, fault.number))
+                }
+                outcome => outcome,
+            }
+        }),
+        ("numbers of 32 bits", |s, b| {
+            let mut rows = read(s, b)?;
+            rows.iter_mut()
+                .flatten()
+                .for_each(|n| *n = u64::from(*n as u32));
+            Ok(rows)
+        }),
+    ];
+
+    #[test]
+    fn every_wrong_reader_is_found() {
+        for (name, wrong) in WRONG {
+            assert!(compare(wrong, 5_000).different > 0, "{name}");
+        }
+    }
+
+    #[test]
+    fn the_examples_are_read_as_expected() {
+        let examples = Path::new(env!("CARGO_MANIFEST_DIR")).join("../examples/damaged");
+        let folders = examples.read_dir().expect("the folder of the examples");
+        let mut numbers = Vec::new();
+        for folder in folders {
+            let folder = folder.expect("a folder").path();
+            let expected =
+                std::fs::read_to_string(folder.join("expected")).expect("what is expected");
+            assert_eq!(
+                read_folder(&folder).expect("sheets"),
+                expected,
+                "{}",
+                folder.display()
+            );
+            numbers.push(expected.trim_end().rsplit(',').next().map(String::from));
+        }
+        for number in 21..=26 {
+            assert!(numbers.contains(&Some(number.to_string())), "{number}");
+        }
+    }
+
+    #[test]
+    fn the_proved_library_is_alike() {
+        if let Some(proved) = PROVED {
+            assert_eq!(compare(proved, 100_000).different, 0);
+        }
+    }
 }
