@@ -6,6 +6,7 @@ mod house;
 mod parting;
 mod random;
 mod sheet_draws;
+mod sheet_speed;
 mod sheets;
 mod speed;
 mod sums;
@@ -21,8 +22,6 @@ const USAGE: &str =
 const MISSING: &str =
     "host: target/staticlib/libcapi.a or libhost_calls.a was missing when the host \
                        was built; build them, then the host again";
-const NO_READER: &str =
-    "host: the library is missing: this host was built without its reader of sheets";
 
 fn main() -> ExitCode {
     let words: Vec<String> = std::env::args().skip(1).collect();
@@ -46,7 +45,7 @@ fn main() -> ExitCode {
             }
             Err(error) => fail(&format!("host: {error}")),
         },
-        ["speed"] => with_library(speed::run) && with_rules(sums::speed),
+        ["speed"] => with_library(speed::run) && with_rules(sums::speed) && sheet_speed::run(),
         ["worked_examples"] => {
             print!("{}", worked::text());
             true
@@ -77,7 +76,7 @@ fn with_rules(run: impl FnOnce(sums::Proved) -> bool) -> bool {
 fn with_sheets(run: impl FnOnce(sheets::SheetCall) -> bool) -> bool {
     match sheets::PROVED {
         Some(proved) => run(proved),
-        None => fail(NO_READER),
+        None => fail(MISSING),
     }
 }
 

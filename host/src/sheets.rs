@@ -312,7 +312,52 @@ fn text(sheets: &[(Sheet, Vec<u8>)]) -> String {
 pub type SheetCall = fn(Sheet, &[u8]) -> Outcome;
 
 /// The reader of the proved library, if that was there when the host was built.
+#[cfg(linked)]
+pub const PROVED: Option<SheetCall> = Some(linked::read);
+#[cfg(not(linked))]
 pub const PROVED: Option<SheetCall> = None;
+
+/// The calls of the proved library.
+#[cfg(linked)]
+pub mod linked {
+    use super::{Fault, Outcome, Sheet, MOST_BYTES};
+
+    extern "C" {
+        fn niszorgy_host_members(bytes: *const u8, len: usize, into: *mut u64, room: usize) -> i64;
+        fn niszorgy_host_grid(bytes: *const u8, len: usize, into: *mut u64, room: usize) -> i64;
+        fn niszorgy_host_readings(bytes: *const u8, len: usize, into: *mut u64, room: usize)
+            -> i64;
+    }
+
+    /// How many numbers were written, or -1 for a fault, whose four numbers were written.
+    pub fn read_into(sheet: Sheet, bytes: &[u8], into: &mut [u64]) -> i64 {
+        let call = match sheet {
+            Sheet::Members => niszorgy_host_members,
+            Sheet::Grid => niszorgy_host_grid,
+            Sheet::Readings => niszorgy_host_readings,
+        };
+        // Each pointer goes with the length of its slice.
+        unsafe { call(bytes.as_ptr(), bytes.len(), into.as_mut_ptr(), into.len()) }
+    }
+
+    pub fn read(sheet: Sheet, bytes: &[u8]) -> Outcome {
+        // Every cell has a byte after it; a fault has four numbers.
+        let mut into = vec![0; bytes.len().min(MOST_BYTES) + 4];
+        let columns = match sheet {
+            Sheet::Members | Sheet::Grid => 3,
+            Sheet::Readings => 5,
+        };
+        match usize::try_from(read_into(sheet, bytes, &mut into)) {
+            Ok(count) => Ok(into[..count].chunks(columns).map(<[u64]>::to_vec).collect()),
+            Err(_) => Err(Fault {
+                sheet: into[0],
+                line: into[1],
+                cell: into[2],
+                number: into[3],
+            }),
+        }
+    }
+}
 
 #[derive(Default)]
 struct Tally {

@@ -1,0 +1,3 @@
+-- The kinds of sheets and the faults.
+pub mod Faults
+pub mod Tables

@@ -1,0 +1,9 @@
+-- What a sheet says, and what its states stand for.
+pub mod Columns
+pub mod Listed
+pub mod Names
+pub mod Rows
+pub mod Sheets
+pub mod Small
+pub mod States
+pub mod Values
