@@ -90,7 +90,8 @@ impl<'a> LineCells<'a> {
     pub fn has_cell(&self) -> bool
         ensures answer { λ r. ⌜ r ≡ is-some-left (cells-left (now (self .entry))) ⌝ }
     {
-        self.open
+        let open = self.open;
+        open
     }
 
     /// Takes the next cell of the line.
@@ -118,6 +119,7 @@ impl<'a> LineCells<'a> {
         while self.has_cell() {
             let _cell = self.next_cell();
         }
-        self.at
+        let next = self.at;
+        next
     }
 }
