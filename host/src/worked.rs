@@ -37,6 +37,36 @@ fn drawn_sum(generator: &mut Generator) -> (i64, Vec<i64>) {
     (generator.below(3_000_000_001), weights)
 }
 
+/// Stretches of blocks, each a sign of the deviation and a count of blocks, with what their runs count.
+const RUNS: [(&str, &[(i64, usize)], usize); 8] = [
+    ("one of 6", &[(1, 6)], 0),
+    ("one of 7", &[(1, 7)], 1),
+    ("one of 13", &[(1, 13)], 1),
+    ("one of 14", &[(1, 14)], 2),
+    ("one of 96", &[(1, 96)], 13),
+    ("3 over, 1 level, 4 over", &[(1, 3), (0, 1), (1, 4)], 0),
+    (
+        "7 over, 4 under, 4 over, 1 level, 7 under",
+        &[(1, 7), (-1, 4), (1, 4), (0, 1), (-1, 7)],
+        2,
+    ),
+    (
+        "40 level, 7 under, 14 over, 35 level",
+        &[(0, 40), (-1, 7), (1, 14), (0, 35)],
+        3,
+    ),
+];
+
+/// The sum over all runs of a seventh of the length: blocks of one sign that is not 0, side by side.
+fn sevenths(stretches: &[(i64, usize)]) -> usize {
+    let signs: Vec<i64> = stretches
+        .iter()
+        .flat_map(|&(sign, blocks)| std::iter::repeat_n(sign, blocks))
+        .collect();
+    let runs = signs.chunk_by(|a, b| a == b).filter(|run| run[0] != 0);
+    runs.map(|run| run.len() / 7).sum()
+}
+
 pub fn text() -> String {
     let mut lines = vec!["Rates of the vector at price 4000".to_string()];
     for (frequency, by_hand) in [(4984, 8000), (4999, 4266), (5004, 800), (5005, 0)] {
@@ -88,6 +118,12 @@ pub fn text() -> String {
         ));
     }
 
+    lines.push("A seventh of each run".to_string());
+    for (blocks, stretches, by_hand) in RUNS {
+        let came = sevenths(stretches);
+        lines.push(format!("{blocks}: came {came}, by hand {by_hand}"));
+    }
+
     lines.push("Sums by hand".to_string());
     lines.push(parted(10, &[1, 1, 1]));
     lines.push(parted(10500, &[2850, 1900, 3500, 1500]));
@@ -115,11 +151,11 @@ mod tests {
             let (_, came) = before.split_once(": came ")?;
             Some((came, by_hand))
         });
-        assert_eq!(pairs.clone().count(), 13);
+        assert_eq!(pairs.clone().count(), 21);
         assert!(pairs.into_iter().all(|(came, by_hand)| came == by_hand));
         assert!(text.contains("\n10 by 1 1 1: largest remainder 4 3 3, running 3 3 4\n"));
         assert!(text.ends_with('\n'));
-        assert_eq!(text.lines().count(), 27 + SUMS_FROM_A_SEED);
+        assert_eq!(text.lines().count(), 36 + SUMS_FROM_A_SEED);
     }
 
     #[test]

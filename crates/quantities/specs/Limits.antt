@@ -1,6 +1,6 @@
 -- The limits of the quantities, each named once. Assumes nothing.
 use mathlib.Core.Bool.{Bool, false, _&&_}
-use Prim.Native.Nat.{ℕ}
+use Prim.Native.Nat.{ℕ, _-_, _^_}
 use lib.Dec.{leb}
 use lib.IntN.{ℤ, pos, negsuc}
 
@@ -22,6 +22,10 @@ most-rate = 8000
 -- the charge of one block either way, in paise
 abbrev pub most-charge : ℕ
 most-charge = 100000000
+
+-- the largest sum of money that a number of the code holds
+abbrev pub most-paise : ℕ
+most-paise = 2 ^ 63 - 1
 
 -- whether a number of a call lies between two limits, both of them allowed
 abbrev pub within : ℕ → ℕ → ℤ → Bool

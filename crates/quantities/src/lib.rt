@@ -6,6 +6,7 @@ mod paise;
 mod products;
 mod rate;
 mod side;
+mod sums;
 
 pub use centi_kwh::CentiKwh;
 pub use kwh::Kwh;
@@ -19,3 +20,4 @@ pub use paise::PaiseDisplay;
 pub use rate::Rate;
 pub use rate::RateDisplay;
 pub use side::Side;
+pub use sums::PaiseAdd;

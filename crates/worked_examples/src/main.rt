@@ -9,6 +9,7 @@ use by_hand::rate_at;
 use by_hand::seller_at;
 use facts::BlockFacts;
 use facts::FactsRefusalError;
+use member_day::worked_runs;
 use other_piles::unusual_charge;
 use quantities::KwhDisplay;
 use quantities::PaiseDisplay;
@@ -25,6 +26,7 @@ fn run(rt: &impl Print) -> Result<(), AnyError> {
     bands(rt)?;
     sellers(rt)?;
     another_pile(rt)?;
+    runs(rt)?;
     sums::by_hand(rt)?;
     sums::from_seed(rt)
 }
@@ -91,6 +93,24 @@ fn another_pile(rt: &impl Print) -> Result<(), AnyError> {
             rt,
             "kind {kind}, scheduled {scheduled}, metered {metered}, available {available}, frequency {hz100}: came {came}"
         )?;
+    }
+    Ok(())
+}
+
+fn runs(rt: &impl Print) -> Result<(), AnyError> {
+    println!(rt, "A seventh of each run")?;
+    let examples = [
+        ("one of 6", 0),
+        ("one of 7", 1),
+        ("one of 13", 1),
+        ("one of 14", 2),
+        ("one of 96", 13),
+        ("3 over, 1 level, 4 over", 0),
+        ("7 over, 4 under, 4 over, 1 level, 7 under", 2),
+        ("40 level, 7 under, 14 over, 35 level", 3),
+    ];
+    for ((blocks, by_hand), came) in examples.iter().zip(worked_runs().iter()) {
+        println!(rt, "{blocks}: came {came}, by hand {by_hand}")?;
     }
     Ok(())
 }

@@ -1,0 +1,4 @@
+pub mod RunLaws
+pub mod DaySteps
+pub mod Dues
+pub mod LevelDay
