@@ -122,14 +122,6 @@ some (b ∷ bs) h = refl
 pub open-at : (bs : List ℕ) (at : ℕ) → at < length bs → open-lines (drop at bs) ≡ lines (drop at bs)
 open-at bs at h = some (drop at bs) (omega (arith, length-drop at bs))
 
--- where no cell is left, the next line starts
-pub closed-lines : (s : LineCells) → is-some-left (cells-left s) ≡ false → lines (drop (s .at) (s .bytes .now)) ≡ lines-after s
-closed-lines s e =
-    ⊎-elim
-    (λ o. absurd (true≢false (sym (ap (λ b. is-some-left (placed (s .at) (texts-at b (drop (s .at) (s .bytes .now))))) o ∙ ap (λ ts. is-some-left (placed (s .at) ts)) (taken (drop (s .at) (s .bytes .now)) .texts)) ∙ e)))
-    (λ o. sym (ap (λ b. after-at b (drop (s .at) (s .bytes .now))) o))
-    (cases-bool (s .«open»))
-
 pub others-less : {X : Type 0} (xs : List X) → is-some-left xs ≡ true → length (others xs) < length xs
 others-less [] e = absurd (true≢false (sym e))
 others-less (x ∷ xs) e = omega arith

@@ -1,4 +1,4 @@
--- What cells and lines are.
+-- What cells and lines are. Assumes nothing.
 pub mod Numbers
 pub mod Cells
 pub mod Scans

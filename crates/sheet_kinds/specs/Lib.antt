@@ -1,3 +1,3 @@
--- The kinds of sheets and the faults.
+-- The kinds of sheets and the faults. Assumes nothing.
 pub mod Faults
 pub mod Tables

@@ -9,3 +9,6 @@ pub mod Counts
 pub mod Nexts
 pub mod Orders
 pub mod Openings
+pub mod Writing
+pub mod Places
+pub mod ReadingBack

@@ -1,4 +1,4 @@
--- What a sheet says, and what its states stand for.
+-- What a sheet says, and what its states stand for. Assumes nothing.
 pub mod Columns
 pub mod Listed
 pub mod Names
@@ -7,3 +7,4 @@ pub mod Sheets
 pub mod Small
 pub mod States
 pub mod Values
+pub mod Written

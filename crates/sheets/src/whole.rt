@@ -2,6 +2,7 @@
 ghost use Rattle.sheets.specs.Rows.{map-ok};
 ghost use Rattle.sheets.specs.Sheets.{sheet-rows};
 ghost use Rattle.sheets.specs.Small.{Small-rows};
+ghost use Rattle.sheets.specs.Written.{Reads-back};
 ghost use Rattle.std.specs.Vec.{made};
 ghost use lib.ListN.{length};
 ghost use mathlib.Core.Path.{_≡_};
@@ -21,10 +22,11 @@ fn counted<K: SheetKind>(kind: &K, bytes: &[u8]) -> Result<usize, SheetFault>
     Ok(sheet.ended().rows())
 }
 
-/// How many rows a sheet has, or its first fault. Every value of a row has ten digits at most.
+/// How many rows a sheet has, or its first fault. Every value of a row has ten digits at most, and such rows, written out, read back.
 pub fn count_rows<K: SheetKind>(kind: &K, bytes: &[u8]) -> Result<usize, SheetFault>
     ensures answer { λ r. ⌜ r ≡ map-ok length (sheet-rows (K·SheetKind .table) (now (bytes .entry))) ⌝ }
     ensures law { λ _. ⌜ made (sheet-rows (K·SheetKind .table) (now (bytes .entry))) Small-rows ⌝ }
+    ensures round_trip { λ _. ⌜ Reads-back (K·SheetKind .table) ⌝ }
 {
     counted(kind, bytes)
 }
