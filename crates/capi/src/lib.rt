@@ -1,4 +1,6 @@
 //! The calls for C.
+#![tactic(auto)]
+
 ghost use Rattle.capi.specs.HouseAnswer.{house_answer};
 ghost use Rattle.facts.specs.Refusals.{facts_from};
 ghost use Rattle.std.specs.Prelude.{◌≡◌};

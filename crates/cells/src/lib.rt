@@ -1,4 +1,6 @@
 //! The cells of a line, each with its bytes and their place.
+#![tactic(auto)]
+
 mod cell;
 mod line;
 mod next;

@@ -1,4 +1,6 @@
 //! A day's records as a function of its entries alone.
+#![tactic(auto)]
+
 mod alike;
 mod close;
 mod dues;

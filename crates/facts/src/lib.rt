@@ -1,4 +1,6 @@
 //! The facts of one block: who deviates, the reading and the grid's row.
+#![tactic(auto)]
+
 mod block_facts;
 mod grid_row;
 mod kinds;

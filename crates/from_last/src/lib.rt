@@ -1,4 +1,6 @@
 //! A parting rule that goes from the last member to the first.
+#![tactic(auto)]
+
 mod from_last;
 mod worked;
 

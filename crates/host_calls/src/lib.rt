@@ -1,4 +1,6 @@
 //! The calls by which the independent host compares what no C call of the product shows. No product makes them.
+#![tactic(auto)]
+
 mod calls;
 mod days;
 mod partings;

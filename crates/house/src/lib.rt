@@ -1,4 +1,6 @@
 //! The house pile of tariffs.
+#![tactic(auto)]
+
 ghost use Rattle.std.specs.Prelude.{ℕ, ◌≡◌};
 ghost use Rattle.house.specs.Pile.{house_charge};
 ghost use Rattle.facts.specs.Facts.{plain};

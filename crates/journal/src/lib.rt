@@ -1,4 +1,6 @@
 //! The journal of a pool: calls as values, an entry for each that was performed, and the law over any run.
+#![tactic(auto)]
+
 mod answer;
 mod call;
 mod entry;

@@ -1,4 +1,6 @@
 //! A member's day by any tariff: base, runs and surcharge.
+#![tactic(auto)]
+
 mod blocks;
 mod day;
 mod direction;

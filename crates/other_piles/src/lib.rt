@@ -1,4 +1,6 @@
 //! Piles other than the house's: the layers stand over any tariff, in any order.
+#![tactic(auto)]
+
 ghost use Rattle.std.specs.Prelude.{ℕ, pos, ◌≡◌};
 ghost use Rattle.other_piles.specs.Pile.{unusual_charge};
 ghost use Rattle.facts.specs.Facts.{plain};

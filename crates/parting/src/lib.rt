@@ -1,4 +1,6 @@
 //! Parting a sum of money among members by their weights.
+#![tactic(auto)]
+
 mod asked;
 mod largest_remainder;
 mod rule;

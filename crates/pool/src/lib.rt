@@ -1,4 +1,6 @@
 //! A pool: its members, the entries of its open day, accounts and cash, and the calls on it.
+#![tactic(auto)]
+
 mod accounts;
 mod book;
 mod calls;

@@ -1,4 +1,6 @@
 //! Energy, rates and money: three sorts of quantity, and the named products between them.
+#![tactic(auto)]
+
 mod centi_kwh;
 mod kwh;
 mod limits;

@@ -1,5 +1,7 @@
 //! Reads a full sheet of readings again and again. Prints what was read, and on standard error the time of the fastest
 //! reading.
+#![tactic(auto)]
+
 mod full;
 mod total;
 

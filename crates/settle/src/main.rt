@@ -1,4 +1,6 @@
 //! Tests the three sheets of the folder where it is run, and prints the first fault, or how many rows each has.
+#![tactic(auto)]
+
 mod files;
 mod tested;
 

@@ -1,5 +1,7 @@
 //! Settles the day of the three sheets in the folder where it is run, in memory, and prints its lines, or the first
 //! fault or refusal with its place.
+#![tactic(auto)]
+
 mod duties;
 mod files;
 mod settled;

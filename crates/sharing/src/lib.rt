@@ -1,4 +1,6 @@
 //! Sharing out a day's charges: the members' lines and the reserve's.
+#![tactic(auto)]
+
 mod charge;
 mod lines;
 mod share;

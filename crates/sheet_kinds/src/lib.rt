@@ -1,4 +1,6 @@
 //! What kinds of sheets there are, and what can be wrong with a sheet.
+#![tactic(auto)]
+
 mod fault;
 mod fault_numbers;
 mod grid;

@@ -1,4 +1,6 @@
 //! One reader for every kind of sheet.
+#![tactic(auto)]
+
 mod columns;
 mod moves;
 mod names;

@@ -1,4 +1,6 @@
 //! Tariffs: what a member is charged for one block.
+#![tactic(auto)]
+
 mod bands;
 mod by_kind;
 mod cap;

@@ -1,5 +1,7 @@
 //! Two suppliers settle the same calls: pools of other types that answer alike. A third pool, with a pile in another
 //! order and the running rule, settles them too. Prints what was compared.
+#![tactic(auto)]
+
 mod calls;
 mod compare;
 mod second;

@@ -1,4 +1,6 @@
 //! Prints days shared out by hand, each line with what came and what should come.
+#![tactic(auto)]
+
 use quantities::Paise;
 use sharing::{Unshared, one_paisa, seven_members};
 

@@ -1,4 +1,6 @@
 //! Works the examples out, and prints each with what came and what should come.
+#![tactic(auto)]
+
 mod by_hand;
 mod seeded;
 mod sums;
