@@ -3,7 +3,7 @@
 
 usage: tools/respell.py [--check]     at the top of the repository; --check writes nothing and prints the table
 
-A name is taken from where it is declared: at the left of a top-level signature of specs/ or proofs/, as a record, a
+A name is taken from where it is declared: at the left of a signature of specs/ or proofs/, as a record, a
 data type, a constructor or a field. What Rattle itself names (goals in Answers.antt and Invariants.antt) is no name of
 ours. A dash becomes an underscore; a name that begins with a capital loses its dashes and each part gets a capital. A ghost
 member of a trait that has a capital inside gets an underscore there.
@@ -13,7 +13,7 @@ import re
 import sys
 
 TOKEN = re.compile(r'[^\s(){}.;,@"«»:]+')
-SIGNATURE = re.compile(r'^(?:  )?(?:abbrev |unfoldable )?(?:pub )?([^\s(){}.;,@"«»:]+)(?: \([^=]*\))* :')
+SIGNATURE = re.compile(r'^ *(?:abbrev |unfoldable )?(?:pub )?([^\s(){}.;,@"«»:]+)(?: \([^=]*\))* :')
 TYPE = re.compile(r'^(?:pub )?(?:record|data) ([^\s(){}.;,@"«»:]+)')
 FIELD = re.compile(r'^  +(?:pub )?([^\s(){}.;,@"«»:]+) :')
 MEMBER = re.compile(r'^ +ghost ([a-z]+[A-Z]\w*):', re.M)

@@ -46,8 +46,8 @@ module _ (bs : List ℕ) (at len value end : ℕ) (low : at ≤ length bs) (run 
         ∙ get_or-drop at bs 0 0
         ∙ ap (λ k. get_or bs k 0) (omega arith)
 
-    pub means-number : (eqb len (end - at) && (eqb (end - at) 1 || not (eqb (get_or bs at 0) 48))) ≡ true → number value ≡ meaning (front (drop at bs))
-    means-number t =
+    pub means_number : (eqb len (end - at) && (eqb (end - at) 1 || not (eqb (get_or bs at 0) 48))) ≡ true → number value ≡ meaning (front (drop at bs))
+    means_number t =
         let p = and_parts (eqb len (end - at)) (eqb (end - at) 1 || not (eqb (get_or bs at 0) 48)) t in
         let whole : len ≡ end - at = eqb-true _ _ p.0 in
         let nothing = nil_from_length (front (drop (at + len) bs)) (omega (arith, run.long, long, whole)) in
@@ -68,8 +68,8 @@ module _ (bs : List ℕ) (at len value end : ℕ) (low : at ≤ length bs) (run 
         (λ on. sym run.same ∙ ap (digits_after value) (front_on bs (at + len) inside on) ∙ cond-false _ _ None (run.stops few inside))
         (cases_Bool (is_stop (get_or bs (at + len) 0)))
 
-    pub means-other : (eqb len (end - at) && (eqb (end - at) 1 || not (eqb (get_or bs at 0) 48))) ≡ false → other ≡ meaning (front (drop at bs))
-    means-other t = sym (cond-false _ empty _ filled ∙ ap number_or_other
+    pub means_other : (eqb len (end - at) && (eqb (end - at) 1 || not (eqb (get_or bs at 0) 48))) ≡ false → other ≡ meaning (front (drop at bs))
+    means_other t = sym (cond-false _ empty _ filled ∙ ap number_or_other
         (⊎_elim
         (λ more. ⊎_elim
         (λ few. none_anyway (eqb (length (front (drop at bs))) 0 || ltb 10 (length (front (drop at bs)))) (eqb (get_or (front (drop at bs)) 0 0) 48 && ltb 1 (length (front (drop at bs)))) (digits_after 0 (front (drop at bs))) (bad few more))

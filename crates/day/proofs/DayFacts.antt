@@ -83,10 +83,10 @@ module _ (m : Facts → ℤ) (level : (f : Facts) → Within f → f.metered ≡
       let each = all_facts (λ f. m f ≡ pos 0) k _ mb.readings gs (λ r g f q e. level f (at_within k r g f e) (level_at k r g f e q)) scheduled in
       let base : base_of m fs ≡ pos 0 = base_alike m (λ _. pos 0) fs each ∙ base_nothing fs in
       let none = (nothing_due k n (money (pos 0)) (money (pos (surcharge_of k n (pos 0)))) refl refl).1 in
-      ap (λ x. due_as m gs x mb) is ∙ (ap (due_on k n) base ∙ ap with-surcharge none)
+      ap (λ x. due_as m gs x mb) is ∙ (ap (due_on k n) base ∙ ap with_surcharge none)
     where
-      with-surcharge : ℤ → Due
-      with-surcharge z = record { base = money (pos 0); surcharge = money z }
+      with_surcharge : ℤ → Due
+      with_surcharge z = record { base = money (pos 0); surcharge = money z }
 
 -- tariffs that charge alike within the limits give equal dues
 module _ (m n : Facts → ℤ) (alike : (f : Facts) → Within f → m f ≡ n f) (gs : List (Option GridEntry)) where

@@ -151,20 +151,20 @@ module _ (m : Facts → ℤ) (level : (f : Facts) → Within f → f.metered ≡
 
   module _ (g : ℕ → List ℕ → List ℕ) (fair : (amount : ℕ) (ws : List ℕ) → Asked amount ws → Parted amount ws (g amount ws)) (ms : List Member) where
     -- the records of a day whose sides are within their limit keep the law, whatever the tariff and the rule are
-    pub settled-within : length ms ≤ most_members → too_much (charges_of m gs ms) ≡ false → Settled ms (day_records m g gs ms)
-    settled-within few small =
+    pub settled_within : length ms ≤ most_members → too_much (charges_of m gs ms) ≡ false → Settled ms (day_records m g gs ms)
+    settled_within few small =
         let cs = charges_of m gs ms in
         let whole = fair_whole g fair cs (omega (arith, length-map ms (charge_of m gs))) small in
         settled ms few (lines_of g cs) (reserve cs) whole
 
     -- so do those that are written where the answer is Ok
-    settled-records : (records : ℕ) → is_ok (closing m gs ms records) ≡ true → Settled ms (day_records m g gs ms)
-    settled-records records ok = settled-within (few_members m gs ms records ok) (not_too_much m gs ms records ok)
+    settled_records : (records : ℕ) → is_ok (closing m gs ms records) ≡ true → Settled ms (day_records m g gs ms)
+    settled_records records ok = settled_within (few_members m gs ms records ok) (not_too_much m gs ms records ok)
 
     -- and so do the first of those that were given
-    pub settled-answer : (records : ℕ) (out rest old : List Record) (r : Result (Unit {0}) Unclosed) → r ≡ closing m gs ms records → out ≡ cond (is_ok r) (day_records m g gs ms ++ rest) old → is_ok r ≡ true → Settled ms (take record_count out)
-    settled-answer records out rest old r answer is ok =
+    pub settled_answer : (records : ℕ) (out rest old : List Record) (r : Result (Unit {0}) Unclosed) → r ≡ closing m gs ms records → out ≡ cond (is_ok r) (day_records m g gs ms ++ rest) old → is_ok r ≡ true → Settled ms (take record_count out)
+    settled_answer records out rest old r answer is ok =
         let e : out ≡ day_records m g gs ms ++ rest = is ∙ cond-true (is_ok r) (day_records m g gs ms ++ rest) old ok in
         let n = length_records (map (due_of m gs) ms) (lines_of g (charges_of m gs ms)) (reserve (charges_of m gs ms)) in
         let t : take record_count out ≡ day_records m g gs ms = ap (take record_count) e ∙ take_at (day_records m g gs ms) rest record_count n in
-        subst (Settled ms) (sym t) (settled-records records (sym (ap is_ok answer) ∙ ok))
+        subst (Settled ms) (sym t) (settled_records records (sym (ap is_ok answer) ∙ ok))

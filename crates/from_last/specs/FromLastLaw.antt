@@ -70,21 +70,21 @@ module _ (amount : ℕ) (ws : List ℕ) (asked : Asked amount ws) where
     pub seen_more : seen + slice_index ws (i - 1) ≡ sum (drop (i - 1) ws)
     seen_more = omega (arith, is, back (i - 1) (omega arith), ap (λ n. sum (drop n ws)) same_place)
 
-    pub reached-lies : ((seen + slice_index ws (i - 1)) * amount / total * total ≤ (seen + slice_index ws (i - 1)) * amount) × ((seen + slice_index ws (i - 1)) * amount < ((seen + slice_index ws (i - 1)) * amount / total + 1) * total)
-    reached-lies = rounded _ total _ (omega (arith, whole, asked.weighs)) refl
+    pub reached_lies : ((seen + slice_index ws (i - 1)) * amount / total * total ≤ (seen + slice_index ws (i - 1)) * amount) × ((seen + slice_index ws (i - 1)) * amount < ((seen + slice_index ws (i - 1)) * amount / total + 1) * total)
+    reached_lies = rounded _ total _ (omega (arith, whole, asked.weighs)) refl
 
-    reached-is : (seen + slice_index ws (i - 1)) * amount / total ≡ total_from amount ws (i - 1)
+    reached_is : (seen + slice_index ws (i - 1)) * amount / total ≡ total_from amount ws (i - 1)
     unfolding total_from
-    reached-is = rw (seen_more, whole)
+    reached_is = rw (seen_more, whole)
 
     module _ (low : given * total ≤ seen * amount) (high : seen * amount < (given + 1) * total) where
       given_is : given ≡ total_from amount ws i
       unfolding total_from
       given_is = sym (rw (← whole, ← is) (div-eq_of_lt-le total low high))
 
-      pub given-le : given ≤ (seen + slice_index ws (i - 1)) * amount / total
-      given-le = omega (arith, given_is, reached-is, total_falls (i - 1) (omega arith), ap (total_from amount ws) same_place)
+      pub given_le : given ≤ (seen + slice_index ws (i - 1)) * amount / total
+      given_le = omega (arith, given_is, reached_is, total_falls (i - 1) (omega arith), ap (total_from amount ws) same_place)
 
-      pub share-is : (seen + slice_index ws (i - 1)) * amount / total - given ≡ share_from amount ws (i - 1)
+      pub share_is : (seen + slice_index ws (i - 1)) * amount / total - given ≡ share_from amount ws (i - 1)
       unfolding share_from
-      share-is = omega (arith, given_is, reached-is, ap (total_from amount ws) same_place)
+      share_is = omega (arith, given_is, reached_is, ap (total_from amount ws) same_place)

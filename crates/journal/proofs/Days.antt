@@ -15,7 +15,7 @@ use Rattle.day.specs.Members.{most_members, nobody}
 use Rattle.day.specs.Records.{day_records, record_count}
 use Rattle.day.specs.declared.member.MemberKind.TheVariants.{Regional}
 use Rattle.day.proofs.AlikeDays.{alike_records}
-use Rattle.day.proofs.SettledDay.{settled-within}
+use Rattle.day.proofs.SettledDay.{settled_within}
 use Rattle.pool.specs.Rules.{close_rule, unless}
 use Rattle.pool.specs.Tables.{all_entered}
 use Rattle.pool.specs.declared.refusal.Refusal.TheVariants.{TooFewRecords, SideTooLarge}
@@ -95,7 +95,7 @@ module _ (m : Facts → ℤ) (g : ℕ → List ℕ → List ℕ) where
   fair_days level fair J h e before d =
       let t = told_of J e before h d in
       subst (Settled (members_in before)) (sym (records_are e before t d.closed))
-      (settled-within m level (grid_in before) g fair (members_in before) (few_members e before t) (within_sides e before t d.closed))
+      (settled_within m level (grid_in before) g fair (members_in before) (few_members e before t) (within_sides e before t d.closed))
 
 pub same_days : (m n : Facts → ℤ) (g h : ℕ → List ℕ → List ℕ) (J J' : List Entry) → AlikeTariffs m n → AlikeRules g h → Each m g J → Each n h J' → Same J J'
 same_days m n g h J J' tariffs rules each each' e e' before before' d d' a =

@@ -44,23 +44,23 @@ module _ (k : Kind) (rs : List (Option ReadingEntry)) (gs : List (Option GridEnt
   -- all that the day comes to is the sums so far with what is left
   module _ (m : Facts → ℤ) (base : Paise) (count : RunCount) (all : Option (Paise × ℕ)) (inv : option_map (sums_after m base count) left ≡ all) where
     -- a block that has no facts leaves the day without sums
-    pub sums-stop : (r : Option (Paise × ℕ)) → r ≡ None → i < length rs → i < length gs → None ≡ here → r ≡ all
-    sums-stop r is h j none =
+    pub sums_stop : (r : Option (Paise × ℕ)) → r ≡ None → i < length rs → i < length gs → None ≡ here → r ≡ all
+    sums_stop r is h j none =
         is
         ∙ (ap (λ f. option_map (sums_after m base count) (first f left_after)) none
         ∙ (ap (option_map (sums_after m base count)) (sym (left_more h j)) ∙ inv))
 
     -- past the last block the sums so far are those of the day
-    pub sums-all : (n : ℕ) → length rs ≤ i → length gs ≤ i → n ≡ after_all count [] → Some (base, n) ≡ all
-    sums-all n h j counted =
+    pub sums_all : (n : ℕ) → length rs ≤ i → length gs ≤ i → n ≡ after_all count [] → Some (base, n) ≡ all
+    sums_all n h j counted =
         let same : base.paise ≡ base.paise +ℤ pos 0 = omega (arith, ints) in
         ap (λ z. Some (money z, n)) same
         ∙ (ap (λ x. Some (money (base.paise +ℤ pos 0), x)) counted
         ∙ (ap (option_map (sums_after m base count)) (sym (left_none h j)) ∙ inv))
 
     -- the charge and the direction of a block go from what is to come to the sums so far
-    pub sums-more : (f : Facts) (base' : Paise) (count' : RunCount) → i < length rs → i < length gs → Some f ≡ here → base'.paise ≡ base.paise +ℤ m f → ((ds : List Direction) → after_all count' ds ≡ after_all count (direction f ∷ ds)) → option_map (sums_after m base' count') left_after ≡ all
-    sums-more f base' count' h j some sum step =
+    pub sums_more : (f : Facts) (base' : Paise) (count' : RunCount) → i < length rs → i < length gs → Some f ≡ here → base'.paise ≡ base.paise +ℤ m f → ((ds : List Direction) → after_all count' ds ≡ after_all count (direction f ∷ ds)) → option_map (sums_after m base' count') left_after ≡ all
+    sums_more f base' count' h j some sum step =
         moved left_after
         ∙ (ap (λ o. option_map (sums_after m base count) (first o left_after)) some
         ∙ (ap (option_map (sums_after m base count)) (sym (left_more h j)) ∙ inv))

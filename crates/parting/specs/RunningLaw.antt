@@ -47,20 +47,20 @@ module _ (amount : ℕ) (ws : List ℕ) (asked : Asked amount ws) where
     pub seen_more : seen + slice_index ws k ≡ sum (take (k + 1) ws)
     seen_more = omega (arith, is, front k within)
 
-    pub reached-lies : (reached * total ≤ (seen + slice_index ws k) * amount) × ((seen + slice_index ws k) * amount < (reached + 1) * total)
-    reached-lies = rounded _ total reached (omega (arith, whole, asked.weighs)) next
+    pub reached_lies : (reached * total ≤ (seen + slice_index ws k) * amount) × ((seen + slice_index ws k) * amount < (reached + 1) * total)
+    reached_lies = rounded _ total reached (omega (arith, whole, asked.weighs)) next
 
     given_is : given ≡ running_total amount ws k
     unfolding running_total
     given_is = sym (rw (← whole, ← is) (div-eq_of_lt-le total low high))
 
-    reached-is : reached ≡ running_total amount ws (k + 1)
+    reached_is : reached ≡ running_total amount ws (k + 1)
     unfolding running_total
-    reached-is = next ∙ rw (seen_more, whole)
+    reached_is = next ∙ rw (seen_more, whole)
 
-    pub given-le : given ≤ reached
-    given-le = omega (arith, given_is, reached-is, running_rises k within)
+    pub given_le : given ≤ reached
+    given_le = omega (arith, given_is, reached_is, running_rises k within)
 
-    pub share-is : reached - given ≡ running_share amount ws k
+    pub share_is : reached - given ≡ running_share amount ws k
     unfolding running_share
-    share-is = omega (arith, given_is, reached-is)
+    share_is = omega (arith, given_is, reached_is)

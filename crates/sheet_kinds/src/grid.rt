@@ -23,7 +23,7 @@ impl SheetKind for Grid {
 
     ghost row_of = { λ v. record { block = v 0; hz100 = v 1; price = v 2 } };
 
-    ghost apart = { Prim.search rules };
+    ghost names_apart = { Prim.search rules };
 
     ghost plain = { Prim.search rules };
 

@@ -31,7 +31,7 @@ pub trait SheetKind {
         ensures answer { result ≡ row_of (λ k. slice_index values.now k) };
 
     /// No name stands twice.
-    ghost apart: { apart table.names ≡ true };
+    ghost names_apart: { apart table.names ≡ true };
 
     /// Every byte of a name stands from 0 to z in the code, and so is no comma and no line feed.
     ghost plain: { plain_names table.names ≡ true };

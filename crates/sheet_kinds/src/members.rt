@@ -23,7 +23,7 @@ impl SheetKind for Members {
 
     ghost row_of = { λ v. record { kind = v 0; pays = v 1; gets = v 2 } };
 
-    ghost apart = { Prim.search rules };
+    ghost names_apart = { Prim.search rules };
 
     ghost plain = { Prim.search rules };
 

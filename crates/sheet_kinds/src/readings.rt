@@ -25,7 +25,7 @@ impl SheetKind for Readings {
 
     ghost row_of = { λ v. record { member = v 0; block = v 1; scheduled = v 2; metered = v 3; available = v 4 } };
 
-    ghost apart = { Prim.search rules };
+    ghost names_apart = { Prim.search rules };
 
     ghost plain = { Prim.search rules };
 

@@ -22,15 +22,15 @@ module _ (table : Table) (bs : List ℕ) (rows : List (List ℕ)) (good : sheet_
   never_refused e h = ok_err (sym good ∙ ap (λ r. and_then r (from_lines table)) (sym h))
 
   module _ (ls : List (List ℕ)) (begun : Ok ls ≡ sheet_lines table.number bs) where
-    named-rows : and_then (names_columns table (first_cells ls)) (λ columns. rows_from table columns 2 (others ls)) ≡ Ok rows
-    named-rows = ap (λ r. and_then r (from_lines table)) begun ∙ good
+    named_rows : and_then (names_columns table (first_cells ls)) (λ columns. rows_from table columns 2 (others ls)) ≡ Ok rows
+    named_rows = ap (λ r. and_then r (from_lines table)) begun ∙ good
 
-    pub never-misnamed : {A : Type 0} (e : SheetFault) → Err e ≡ names_columns table (first_cells ls) → A
-    never-misnamed e h = ok_err (sym named-rows ∙ ap (λ r. and_then r (λ columns. rows_from table columns 2 (others ls))) (sym h))
+    pub never_misnamed : {A : Type 0} (e : SheetFault) → Err e ≡ names_columns table (first_cells ls) → A
+    never_misnamed e h = ok_err (sym named_rows ∙ ap (λ r. and_then r (λ columns. rows_from table columns 2 (others ls))) (sym h))
 
     -- all its rows are left once its names are accepted
     pub all_left : (columns : List ℕ) (s : Standing) → Ok columns ≡ names_columns table (first_cells ls) → s ≡ record { left = others ls; line = 2; columns = columns } → Left table s rows
-    all_left columns s h e = ap (rows_left table) e ∙ ap (λ r. and_then r (λ columns. rows_from table columns 2 (others ls))) h ∙ named-rows
+    all_left columns s h e = ap (rows_left table) e ∙ ap (λ r. and_then r (λ columns. rows_from table columns 2 (others ls))) h ∙ named_rows
 
 -- the row handed out is the first of those that were left
 pub record OneLess {R : Type 0} (table : Table) (row_of : (ℕ → ℕ) → R) (s : Standing) (vs : List (List ℕ)) (row : R) : Type 0 where

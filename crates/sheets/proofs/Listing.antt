@@ -42,12 +42,12 @@ module _ {names all ps : List (List ℕ)} {i : ℕ} {at : List ℕ} (o : Listing
       ap Some all_in ∙ some_all names all (omega (arith, o.left, ap length e, h)) good
 
   module _ (k : ℕ) (c : List ℕ) (qs : List (List ℕ)) (were : ps ≡ c ∷ qs) (is : k ≡ index_of names c) where
-    mapped-step : map (index_of names) ps ≡ k ∷ map (index_of names) qs
-    mapped-step = ap (map (index_of names)) were ∙ ap (λ x. x ∷ map (index_of names) qs) (sym is)
+    mapped_step : map (index_of names) ps ≡ k ∷ map (index_of names) qs
+    mapped_step = ap (map (index_of names)) were ∙ ap (λ x. x ∷ map (index_of names) qs) (sym is)
 
     -- the cell is no name, or one that came before
     pub refused : (eqb k (length names) || has k (take i at)) ≡ true → None ≡ columns_of names all
-    refused e = none_fresh names all (sym o.same ∙ ap (fresh (length names) (take i at)) mapped-step ∙ cond-true _ false _ e)
+    refused e = none_fresh names all (sym o.same ∙ ap (fresh (length names) (take i at)) mapped_step ∙ cond-true _ false _ e)
 
     pub step : i < 8 → k < length names → (eqb k (length names) || has k (take i at)) ≡ false → Listing names all qs (length names) (i + 1) (set at i k)
     step few low e =
@@ -57,6 +57,6 @@ module _ {names all ps : List (List ℕ)} {i : ℕ} {at : List ℕ} (o : Listing
           room = length-set at i k ∙ o.room;
           inside = below_more _ i (λ j l. let ne : j ≢ i = omega arith in rw get_or-set_other (o.inside j l)) (let lt : i < length at = omega (arith, o.room) in rw get_or-set_same low);
           left = omega (arith, o.left, ap length were);
-          same = ap (λ l. fresh (length names) l rest) put ∙ sym (cond-false _ false (fresh (length names) (take i at ++ k ∷ []) rest) e) ∙ ap (fresh (length names) (take i at)) (sym mapped-step) ∙ o.same;
-          whole = ap (λ l. l ++ rest) put ∙ append_assoc (take i at) (k ∷ []) rest ∙ ap (λ l. take i at ++ l) (sym mapped-step) ∙ o.whole;
+          same = ap (λ l. fresh (length names) l rest) put ∙ sym (cond-false _ false (fresh (length names) (take i at ++ k ∷ []) rest) e) ∙ ap (fresh (length names) (take i at)) (sym mapped_step) ∙ o.same;
+          whole = ap (λ l. l ++ rest) put ∙ append_assoc (take i at) (k ∷ []) rest ∙ ap (λ l. take i at ++ l) (sym mapped_step) ∙ o.whole;
         }

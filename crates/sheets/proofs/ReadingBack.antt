@@ -70,13 +70,13 @@ module _ (table : Table) (columns : List ℕ) (some : 0 < length table.names) (p
       }
 
   module _ (no-twice : apart table.names ≡ true) (plain : plain_names table.names ≡ true) where
-    names-clean : All Clean (names_in table.names columns)
-    names-clean = all_clean (λ k. get_or table.names k []) (name_clean table.names plain) columns
+    names_clean : All Clean (names_in table.names columns)
+    names_clean = all_clean (λ k. get_or table.names k []) (name_clean table.names plain) columns
 
-    names-back : columns_of table.names (cells (with_commas (names_in table.names columns))) ≡ Some columns
-    names-back =
+    names_back : columns_of table.names (cells (with_commas (names_in table.names columns))) ≡ Some columns
+    names_back =
         let many = length-map columns (λ k. get_or table.names k []) in
-        ap (columns_of table.names) (cells_back (names_in table.names columns) (omega (arith, many, some, places.as_many)) names-clean)
+        ap (columns_of table.names) (cells_back (names_in table.names columns) (omega (arith, many, some, places.as_many)) names_clean)
         ∙ (any_order table.names no-twice (names_in table.names columns) columns).1 named
 
     -- where the names start in the written bytes, and what stands there
@@ -84,22 +84,22 @@ module _ (table : Table) (columns : List ℕ) (some : 0 < length table.names) (p
     start_back true rows = refl
     start_back false rows =
         ap (λ n. drop n (line_of (names_in table.names columns) ++ written_rows columns rows))
-        (cond-false _ 3 0 (and_left _ _ (ne_eqb _ 239 (unmarked (names_in table.names columns) (written_rows columns rows) names-clean))))
+        (cond-false _ 3 0 (and_left _ _ (ne_eqb _ 239 (unmarked (names_in table.names columns) (written_rows columns rows) names_clean))))
 
-    written-ended : (marked : Bool) (rows : List (List ℕ)) → Ended (written marked table columns rows)
-    written-ended true rows = rows_ended columns (239 ∷ 187 ∷ 191 ∷ with_commas (names_in table.names columns)) rows
-    written-ended false rows = rows_ended columns (with_commas (names_in table.names columns)) rows
+    written_ended : (marked : Bool) (rows : List (List ℕ)) → Ended (written marked table columns rows)
+    written_ended true rows = rows_ended columns (239 ∷ 187 ∷ 191 ∷ with_commas (names_in table.names columns)) rows
+    written_ended false rows = rows_ended columns (with_commas (names_in table.names columns)) rows
 
-    sheet-back : (marked : Bool) (rows : List (List ℕ)) → All (λ row. length row ≡ length table.names) rows → SmallRows rows → length (written marked table columns rows) ≤ most_bytes → sheet_rows table (written marked table columns rows) ≡ Ok rows
-    sheet-back marked rows full small short =
+    sheet_back : (marked : Bool) (rows : List (List ℕ)) → All (λ row. length row ≡ length table.names) rows → SmallRows rows → length (written marked table columns rows) ≤ most_bytes → sheet_rows table (written marked table columns rows) ≡ Ok rows
+    sheet_back marked rows full small short =
         let bs : List ℕ = written marked table columns rows in
         let opened : opening table.number bs ≡ Ok (mark_len bs) =
-        cond-false _ _ _ (le-ltb most_bytes (length bs) short) ∙ cond-true _ _ _ (eq-eqb _ _ (written-ended marked rows)) in
+        cond-false _ _ _ (le-ltb most_bytes (length bs) short) ∙ cond-true _ _ _ (eq-eqb _ _ (written_ended marked rows)) in
         ap (λ r. and_then (map_ok (λ at. lines (drop at bs)) r) (from_lines table)) opened
         ∙ ap (λ l. from_lines table (lines l)) (start_back marked rows)
-        ∙ ap (from_lines table) (lines_back (names_in table.names columns) (written_rows columns rows) names-clean)
-        ∙ ap (λ o. and_then (or_names table.number o) (λ ks. rows_from table ks 2 (lines (written_rows columns rows)))) names-back
+        ∙ ap (from_lines table) (lines_back (names_in table.names columns) (written_rows columns rows) names_clean)
+        ∙ ap (λ o. and_then (or_names table.number o) (λ ks. rows_from table ks 2 (lines (written_rows columns rows)))) names_back
         ∙ rows_back 2 rows full small
 
 pub reads_back : (table : Table) → apart table.names ≡ true → plain_names table.names ≡ true → ReadsBack table
-reads_back table no-twice plain marked columns rows some places = sheet-back table columns some places no-twice plain marked rows
+reads_back table no-twice plain marked columns rows some places = sheet_back table columns some places no-twice plain marked rows

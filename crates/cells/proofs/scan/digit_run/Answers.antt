@@ -10,7 +10,7 @@ pub loop-i-preserved : goal.loop-i-preserved
 loop-i-preserved c =
     let bs = c.args.bytes.now in
     let k = c.args.at + c.loop-i.i in
-    let digit : is_digit (get_or bs k 0) ≡ true = sym c.if-not-is-digit.ensures.answer in
+    let digit : is_digit (get_or bs k 0) ≡ true = sym c.if-not-is_digit.ensures.answer in
     let high = leb-true (get_or bs k 0) 57 (and_parts (leb 48 (get_or bs k 0)) (leb (get_or bs k 0) 57) digit).1 in
     let inside : k < length bs = omega arith in
     let on = front_on bs k inside (digit_goes_on (get_or bs k 0) digit) in

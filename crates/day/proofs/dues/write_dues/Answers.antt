@@ -10,16 +10,16 @@ use Rattle.day.specs.declared.unclosed.Unclosed.TheVariants.{Missing}
 use Rattle.day.proofs.Passing.{when_got, when_refused, pass_stop, pass_more, pass_end}
 use Rattle.day.proofs.dues.write_dues.Goals as goal
 
-pub returns-in-err-due : goal.returns-in-err-due
-returns-in-err-due g c =
+pub returns-in_err-due : goal.returns-in_err-due
+returns-in_err-due g c =
     let gs = c.args.grid.now in
     let ms = c.args.members.now in
     let i = c.loop-i.i in
-    let r = c.from-residual.result in
+    let r = c.from_residual.result in
     let due = due_of (g.T.Tariff.meaning c.args.tariff.now) gs (get_or ms i nobody) in
-    let got = sym (ap (λ o. ok_or o Missing) c.member-due.ensures.answer) ∙ (sym c.ok-or.ensures.value ∙ c.in-err-due.was) in
+    let got = sym (ap (λ o. ok_or o Missing) c.member_due.ensures.answer) ∙ (sym c.ok_or.ensures.value ∙ c.in_err-due.was) in
     let refused = when_refused (entered gs (get_or ms i nobody)) due Missing _ got in
-    let p = err_from_is_err_and r c.from-residual.ensures.1 in
+    let p = err_from_is_err_and r c.from_residual.ensures.1 in
     let is = p.1 ∙ ap Err (p.2 ∙ refused.1) in
     let fails = pass_stop (entered gs) ms i c.loop-i.invariant.0 nobody c.loop-i-test.true refused.0 in
     record {
@@ -35,8 +35,8 @@ loop-i-preserved g c =
     let ms = c.args.members.now in
     let i = c.loop-i.i in
     let mb = get_or ms i nobody in
-    let due = c.in-ok-due.due in
-    let got = sym (ap (λ o. ok_or o Missing) c.member-due.ensures.answer) ∙ (sym c.ok-or.ensures.value ∙ c.in-ok-due.was) in
+    let due = c.in_ok-due.due in
+    let got = sym (ap (λ o. ok_or o Missing) c.member_due.ensures.answer) ∙ (sym c.ok_or.ensures.value ∙ c.in_ok-due.was) in
     let given = when_got (entered gs mb) (due_of m gs mb) due Missing got in (
       pass_more (entered gs) ms i c.loop-i.invariant.0 nobody c.loop-i-test.true given.0,
       map_step (due_of m gs) ms c.loop-i.dues i nobody due c.loop-i-test.true (omega arith) given.1 c.loop-i.invariant.1,

@@ -7,7 +7,7 @@ use Rattle.std.proofs.Common.{arith}
 
 pub loop-record-preserved : goal.loop-record-preserved
 loop-record-preserved c =
-    rows_more record_numbers _ _ _ c.args.records.now c.loop-record.record-index nothing c.loop-record-test.true c.put-record-at.ensures.answer c.loop-record.invariant
+    rows_more record_numbers _ _ _ c.args.records.now c.loop-record.record-index nothing c.loop-record-test.true c.put_record-at.ensures.answer c.loop-record.invariant
 
 pub returns : goal.returns
 returns c = record {

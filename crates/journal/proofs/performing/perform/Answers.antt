@@ -11,18 +11,18 @@ returns g c =
     let m = g.T.Tariff.meaning c.args.pool.now.tariff in
     let p = g.R.PartingRule.shares c.args.pool.now.rule in
     let b = c.args.pool.now.book in
-    let w = c.answer-to-answer.new.pool.book in
-    let a = c.answer-to-answer.result in
-    let rs = c.answer-to-answer.new.records in
-    let done = c.answer-to-answer.ensures in
+    let w = c.answer_to-answer.new.pool.book in
+    let a = c.answer_to-answer.result in
+    let rs = c.answer_to-answer.new.records in
+    let done = c.answer_to-answer.ensures in
     let s : Sound c.args.pool.now.book = search rules in
-    let t : Sound c.answer-to-answer.new.pool.book = search rules in
+    let t : Sound c.answer_to-answer.new.pool.book = search rules in
     record {
       call = refl;
       stands = λ J st.
           subst (λ x. Stands m p (record { call = c.args.call; answer = a; records = rs; accounts = x; cash = c.cash.result } ∷ J) w) (sym c.accounts.ensures.answer)
           (subst (λ y. Stands m p (record { call = c.args.call; answer = a; records = rs; accounts = w.accounts; cash = y } ∷ J) w) (sym c.cash.ensures.answer)
-          (step_stands m p c.args.call a rs J b w s t st done.answer done.after (done.records ∙ ap (outcome m p b c.args.call).records c.no-records-records.ensures.answer)));
+          (step_stands m p c.args.call a rs J b w s t st done.answer done.after (done.records ∙ ap (outcome m p b c.args.call).records c.no_records-records.ensures.answer)));
       tariff = done.tariff;
       rule = done.rule;
     }

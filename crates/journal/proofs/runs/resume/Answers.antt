@@ -6,7 +6,7 @@ pub returns : goal.returns
 returns g c =
     let m = g.T.Tariff.meaning c.args.pool.now.tariff in
     let p = g.R.PartingRule.shares c.args.pool.now.rule in
-    let h = c.note-all.ensures in
+    let h = c.note_all.ensures in
     record {
       noted = h.noted;
       stands = h.stands;

@@ -12,5 +12,5 @@ returns g c =
     record {
       noted = (one.noted, other.noted);
       law = (one.law, other.law);
-      same = λ tariffs rules. same_days (g.T.Tariff.meaning c.args.tariff) (g.U.Tariff.meaning c.args.other-tariff) (g.R.PartingRule.shares c.args.rule) (g.S.PartingRule.shares c.args.other-rule) J J' tariffs rules one.law.each other.law.each;
+      same = λ tariffs rules. same_days (g.T.Tariff.meaning c.args.tariff) (g.U.Tariff.meaning c.args.other_tariff) (g.R.PartingRule.shares c.args.rule) (g.S.PartingRule.shares c.args.other_rule) J J' tariffs rules one.law.each other.law.each;
     }

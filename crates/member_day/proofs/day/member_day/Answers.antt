@@ -9,9 +9,9 @@ use Rattle.member_day.proofs.day.member_day.Goals as goal
 pub returns : goal.returns
 returns g c =
     let k = c.args.kind in
-    let base = c.in-ok-base.base in
-    let n = c.in-ok-base.sevenths in
-    let sums = c.in-ok-base.ensures in
+    let base = c.in_ok-base.base in
+    let n = c.in_ok-base.sevenths in
+    let sums = c.in_ok-base.ensures in
     let surcharge = c.surcharge.ensures in
     record {
       answer = due_of (g.T.Tariff.meaning c.args.tariff.now) k (day_facts k c.args.readings.now c.args.grid.now) base c.surcharge.result n sums.answer surcharge.answer;

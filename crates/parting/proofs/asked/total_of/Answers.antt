@@ -9,11 +9,11 @@ loop-weight-preserved c =
     let more = sum_by_more (λ x. x) c.args.weights.now c.loop-weight.weight-index 0 (omega arith) in
     (omega (arith, c.loop-weight.invariant.0, c.in-Some.ensures, more), omega (arith, c.in-Some.ensures))
 
-pub returns-in-default : goal.returns-in-default
-returns-in-default c =
+pub returns-in_default : goal.returns-in_default
+returns-in_default c =
     let ws = c.args.weights.now in
     let i = c.loop-weight.weight-index in
-    record { answer = omega (arith, c.loop-weight.invariant.0, c.in-default.ensures, sum_by_more (λ x. x) ws i 0 (omega arith), sum_by-take-le (λ x. x) ws (i + 1)) }
+    record { answer = omega (arith, c.loop-weight.invariant.0, c.in_default.ensures, sum_by_more (λ x. x) ws i 0 (omega arith), sum_by-take-le (λ x. x) ws (i + 1)) }
 
 pub returns : goal.returns
 returns c = record {

@@ -9,25 +9,25 @@ use Rattle.parting.proofs.HandingOut.{floor_is, floors_front, rest_is}
 use Rattle.parting.proofs.Writing.{written}
 use Rattle.parting.proofs.largest_remainder.round_down.Goals as goal
 
-pub whole-paise-floor-requires : goal.whole-paise-floor-requires
-whole-paise-floor-requires c = record {
+pub whole_paise-floor-requires : goal.whole_paise-floor-requires
+whole_paise-floor-requires c = record {
   weighs = omega (arith, c.loop-i.invariant.0, c.requires.asked.weighs);
   fits = product_fits _ _ c.requires.asked _ (weight_le _ _ c.requires.asked _ c.loop-i-test.true);
 }
 
-pub overflow-mul-rest : goal.overflow-mul-rest
-overflow-mul-rest c = omega (arith, product_fits _ _ c.requires.asked _ (weight_le _ _ c.requires.asked _ c.loop-i-test.true))
+pub overflow_mul-rest : goal.overflow_mul-rest
+overflow_mul-rest c = omega (arith, product_fits _ _ c.requires.asked _ (weight_le _ _ c.requires.asked _ c.loop-i-test.true))
 
-pub overflow-sub-left : goal.overflow-sub-left
-overflow-sub-left c =
-    let floor = c.whole-paise-floor.ensures.answer ∙ floor_is c.args.amount c.args.weights.now c.loop-i.i _ c.loop-i.invariant.0 in
+pub overflow_sub-left : goal.overflow_sub-left
+overflow_sub-left c =
+    let floor = c.whole_paise-floor.ensures.answer ∙ floor_is c.args.amount c.args.weights.now c.loop-i.i _ c.loop-i.invariant.0 in
     let more = adds_more (floor_at c.args.amount c.args.weights.now) c.loop-i.i in
     omega (arith, floor, more, c.loop-i.invariant.1, floors_front _ _ c.requires.asked (c.loop-i.i + 1) (omega arith))
 
 pub loop-i-preserved : goal.loop-i-preserved
 loop-i-preserved c =
     let total = c.loop-i.invariant.0 in
-    let floor = c.whole-paise-floor.ensures.answer ∙ floor_is c.args.amount c.args.weights.now c.loop-i.i _ total in
+    let floor = c.whole_paise-floor.ensures.answer ∙ floor_is c.args.amount c.args.weights.now c.loop-i.i _ total in
     let more = adds_more (floor_at c.args.amount c.args.weights.now) c.loop-i.i in (
       total,
       omega (arith, floor, more, c.loop-i.invariant.1, floors_front _ _ c.requires.asked (c.loop-i.i + 1) (omega arith)),
@@ -42,6 +42,6 @@ returns c =
     let given = ap (adds (floor_at c.args.amount c.args.weights.now)) all in
     record {
       answer = omega (arith, given, c.loop-i.invariant.1);
-      into-after = fill_by_all _ c.loop-i.into _ 0 (omega arith) (λ k h. c.loop-i.invariant.2 k (omega arith));
-      rests-after = fill_by_all _ c.loop-i.rests _ 0 (omega arith) (λ k h. c.loop-i.invariant.3 k (omega arith));
+      into_after = fill_by_all _ c.loop-i.into _ 0 (omega arith) (λ k h. c.loop-i.invariant.2 k (omega arith));
+      rests_after = fill_by_all _ c.loop-i.rests _ 0 (omega arith) (λ k h. c.loop-i.invariant.3 k (omega arith));
     }

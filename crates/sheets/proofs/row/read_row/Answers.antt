@@ -24,52 +24,52 @@ pub loop-i-init : goal.loop-i-init
 loop-i-init g c =
     (begin g.K.SheetKind.table c.args.number (column_list c.args.columns.now) (texts (cells_left c.args.cells.now)) c.args.columns.now.len (long g c) c.args.columns.now.few _ refl refl, record { bytes = refl; lines = refl })
 
-pub returns-in-default : goal.returns-in-default
-returns-in-default g c =
-    let l = long g (goal.at.returns-in-default g c).After-sheet-sheet in
-    let e = ran_out g.K.SheetKind.table c.args.number (column_list c.args.columns.now) (texts (cells_left c.args.cells.now)) c.args.columns.now.len l c.args.columns.now.few c.loop-i.invariant.0 (took_none c.loop-i.cells c.in-default.ensures.answer) c.loop-i-test.true in
+pub returns-in_default : goal.returns-in_default
+returns-in_default g c =
+    let l = long g (goal.at.returns-in_default g c).After-sheet-sheet in
+    let e = ran_out g.K.SheetKind.table c.args.number (column_list c.args.columns.now) (texts (cells_left c.args.cells.now)) c.args.columns.now.len l c.args.columns.now.few c.loop-i.invariant.0 (took_none c.loop-i.cells c.in_default.ensures.answer) c.loop-i-test.true in
     record {
       answer = ap (λ n. Err (Count n c.args.number)) c.sheet-sheet.ensures.answer ∙ ap (map_ok (λ v. g.K.SheetKind.row_of (by_place v))) e;
-      same = record { bytes = c.next-cell.ensures.same.bytes ∙ c.loop-i.invariant.1.bytes; lines = c.next-cell.ensures.same.lines ∙ c.loop-i.invariant.1.lines };
+      same = record { bytes = c.next_cell.ensures.same.bytes ∙ c.loop-i.invariant.1.bytes; lines = c.next_cell.ensures.same.lines ∙ c.loop-i.invariant.1.lines };
     }
 
 pub loop-i-preserved : goal.loop-i-preserved
 loop-i-preserved g c =
     let l = long g (goal.at.loop-i-preserved g c).After-sheet-sheet in
     let o = c.loop-i.invariant in
-    let t = took c.loop-i.cells c.next-cell.new.self (shown c.in-Some.cell) c.in-Some.ensures.answer c.next-cell.ensures.after in
-    let same = c.next-cell.ensures.same in
+    let t = took c.loop-i.cells c.next_cell.new.self (shown c.in-Some.cell) c.in-Some.ensures.answer c.next_cell.ensures.after in
+    let same = c.next_cell.ensures.same in
     let k = get_or-take c.args.columns.now.len c.args.columns.now.at c.loop-i.i 0 c.loop-i-test.true in
     let n = c.sheet-sheet.ensures.answer in
     let m = t.means in
-    let may = c.may-be-empty.ensures.answer ∙ ap g.K.SheetKind.table.optional (sym k) in
-    let v = c.value-of.ensures.answer ∙ (λ i. value_of (m i) (may i) (record { sheet = n i; line = c.args.number; cell = c.loop-i.i + 1 })) in (
-      step g.K.SheetKind.table c.args.number (column_list c.args.columns.now) (texts (cells_left c.args.cells.now)) c.args.columns.now.len l c.args.columns.now.few o.0 _ _ t.were c.loop-i-test.true (omega (arith, k, c.args.columns.now.inside c.loop-i.i c.loop-i-test.true)) c.value-of.result c.put.new.self v (c.put.ensures.after ∙ ap (λ j. put_value c.loop-i.values j c.value-of.result) (sym k)),
+    let may = c.may_be_empty.ensures.answer ∙ ap g.K.SheetKind.table.optional (sym k) in
+    let v = c.value_of.ensures.answer ∙ (λ i. value_of (m i) (may i) (record { sheet = n i; line = c.args.number; cell = c.loop-i.i + 1 })) in (
+      step g.K.SheetKind.table c.args.number (column_list c.args.columns.now) (texts (cells_left c.args.cells.now)) c.args.columns.now.len l c.args.columns.now.few o.0 _ _ t.were c.loop-i-test.true (omega (arith, k, c.args.columns.now.inside c.loop-i.i c.loop-i-test.true)) c.value_of.result c.put.new.self v (c.put.ensures.after ∙ ap (λ j. put_value c.loop-i.values j c.value_of.result) (sym k)),
       record { bytes = same.bytes ∙ o.1.bytes; lines = same.lines ∙ o.1.lines },
     )
 
-pub returns-then-has-cell : goal.returns-then-has-cell
-returns-then-has-cell g c =
-    let l = long g (goal.at.returns-then-has-cell g c).After-sheet-sheet in
-    let m = some_left (cells_left c.loop-i.cells) (sym c.if-has-cell.ensures.answer) in
+pub returns-then-has_cell : goal.returns-then-has_cell
+returns-then-has_cell g c =
+    let l = long g (goal.at.returns-then-has_cell g c).After-sheet-sheet in
+    let m = some_left (cells_left c.loop-i.cells) (sym c.if-has_cell.ensures.answer) in
     let e = too_many g.K.SheetKind.table c.args.number (column_list c.args.columns.now) (texts (cells_left c.args.cells.now)) c.args.columns.now.len l c.args.columns.now.few c.loop-i.invariant.0 (omega (arith, m)) c.loop-i-test.false in
     record {
       answer = ap (λ n. Err (Count n c.args.number)) c.sheet-sheet.ensures.answer ∙ ap (map_ok (λ v. g.K.SheetKind.row_of (by_place v))) e;
       same = c.loop-i.invariant.1;
     }
 
-pub returns-in-err-values : goal.returns-in-err-values
-returns-in-err-values g c =
-    let l = long g (goal.at.returns-in-err-values g c).After-sheet-sheet in
-    let none = none_left (cells_left c.loop-i.cells) (sym c.if-has-cell.ensures.answer) in
-    let e = faulty g.K.SheetKind.table c.args.number (column_list c.args.columns.now) (texts (cells_left c.args.cells.now)) c.args.columns.now.len l c.args.columns.now.few c.loop-i.invariant.0 c.in-err-values.field-0.0 none (omega arith) c.in-err-values.was in
-    let p = err_from_is_err_and c.from-residual.result c.from-residual.ensures.1 in
+pub returns-in_err-values : goal.returns-in_err-values
+returns-in_err-values g c =
+    let l = long g (goal.at.returns-in_err-values g c).After-sheet-sheet in
+    let none = none_left (cells_left c.loop-i.cells) (sym c.if-has_cell.ensures.answer) in
+    let e = faulty g.K.SheetKind.table c.args.number (column_list c.args.columns.now) (texts (cells_left c.args.cells.now)) c.args.columns.now.len l c.args.columns.now.few c.loop-i.invariant.0 c.in_err-values.field-0.0 none (omega arith) c.in_err-values.was in
+    let p = err_from_is_err_and c.from_residual.result c.from_residual.ensures.1 in
     record { answer = p.1 ∙ ap Err p.2 ∙ sym (ap (map_ok (λ v. g.K.SheetKind.row_of (by_place v))) e); same = c.loop-i.invariant.1 }
 
 pub returns : goal.returns
 returns g c =
     let l = long g (goal.at.returns g c).After-sheet-sheet in
     let o = c.loop-i.invariant in
-    let none = none_left (cells_left c.loop-i.cells) (sym c.if-has-cell.ensures.answer) in
-    let d = done g.K.SheetKind.table c.args.number (column_list c.args.columns.now) (texts (cells_left c.args.cells.now)) c.args.columns.now.len l c.args.columns.now.few o.0 g.K.SheetKind.row_of none (omega arith) c.in-ok-values.was in
+    let none = none_left (cells_left c.loop-i.cells) (sym c.if-has_cell.ensures.answer) in
+    let d = done g.K.SheetKind.table c.args.number (column_list c.args.columns.now) (texts (cells_left c.args.cells.now)) c.args.columns.now.len l c.args.columns.now.few o.0 g.K.SheetKind.row_of none (omega arith) c.in_ok-values.was in
     record { answer = ap Ok c.row.ensures.answer ∙ d; same = o.1 }

@@ -8,5 +8,5 @@ returns g c =
     record {
       answer = c.counted.ensures.answer;
       law = sheet_small g.K.SheetKind.table c.args.bytes.now;
-      round_trip = reads_back g.K.SheetKind.table g.met.K.SheetKind.apart g.met.K.SheetKind.plain;
+      round_trip = reads_back g.K.SheetKind.table g.met.K.SheetKind.names_apart g.met.K.SheetKind.plain;
     }

@@ -9,15 +9,15 @@ use Rattle.two_suppliers.proofs.supply.both.Goals as goal
 
 pub returns : goal.returns
 returns c =
-    let h = c.run-two.ensures in
+    let h = c.run_two.ensures in
     let a = c.house.ensures in
-    let b = c.second-pile.ensures in
+    let b = c.second_pile.ensures in
     let one = c.house.result in
-    let two = c.second-pile.result in
+    let two = c.second_pile.result in
     let rate = one.rest.below.below.rate.tenths in
     let rate' = two.rest.first.below.below.rate.tenths in
-    let J = reverse (take c.run-two.result.0.1 c.run-two.new.journal) in
-    let J' = reverse (take c.run-two.result.1.1 c.run-two.new.other-journal) in
+    let J = reverse (take c.run_two.result.0.1 c.run_two.new.journal) in
+    let J' = reverse (take c.run_two.result.1.1 c.run_two.new.other_journal) in
     record {
       noted = h.noted;
       law = (

@@ -9,5 +9,5 @@ returns c =
     let s = c.ranges.scheduled in
     let m = c.ranges.metered in
     let f = c.ranges.hz100 in
-    let read = simp to_z-of_z at c.in-ok-facts.ensures.answer in
+    let read = simp to_z-of_z at c.in_ok-facts.ensures.answer in
     record { answer = record { short = λ hs hm hf. c.house_charge.ensures.answer ∙ short_charge _ _ _ _ hs hm hf read } }

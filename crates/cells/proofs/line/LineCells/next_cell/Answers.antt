@@ -11,7 +11,7 @@ use Rattle.std.proofs.lemmas.Bool.{cond_both, ltb-true}
 
 -- where the cell ends
 ends : (c : After-len) → c.args.self.now.at + c.len.result ≡ c.args.self.now.at + length (front (drop c.args.self.now.at c.args.self.now.bytes.now))
-ends c = ap (λ n. c.args.self.now.at + n) (c.len.ensures.answer ∙ ap (λ s. s.len) c.cell-from-cell.ensures.answer)
+ends c = ap (λ n. c.args.self.now.at + n) (c.len.ensures.answer ∙ ap (λ s. s.len) c.cell_from-cell.ensures.answer)
 
 inside : (c : After-len) → c.args.self.now.at + c.len.result ≤ length c.args.self.now.bytes.now
 inside c = omega (arith, ends c, front_le (drop c.args.self.now.at c.args.self.now.bytes.now), length-drop c.args.self.now.at c.args.self.now.bytes.now, c.args.self.now.within)
@@ -19,10 +19,10 @@ inside c = omega (arith, ends c, front_le (drop c.args.self.now.at c.args.self.n
 pub past-self-requires : goal.past-self-requires
 past-self-requires c = inside (goal.at.past-self-requires c).After-len
 
-pub invariant-of-self : goal.invariant-of-self
-invariant-of-self c =
-    let k = inside (goal.at.invariant-of-self c).After-len in
-    (cond_both (ltb (c.args.self.now.at + c.len.result) (length c.args.self.now.bytes.now)) _ _ (λ n. c.past-self.result ≡ n → c.past-self.result ≤ length c.args.self.now.bytes.now) (λ t e. omega (arith, e, ltb-true _ _ t)) (λ t e. omega (arith, e, k)) c.past-self.ensures.answer, tt)
+pub invariant_of-self : goal.invariant_of-self
+invariant_of-self c =
+    let k = inside (goal.at.invariant_of-self c).After-len in
+    record { within = cond_both (ltb (c.args.self.now.at + c.len.result) (length c.args.self.now.bytes.now)) _ _ (λ n. c.past-self.result ≡ n → c.past-self.result ≤ length c.args.self.now.bytes.now) (λ t e. omega (arith, e, ltb-true _ _ t)) (λ t e. omega (arith, e, k)) c.past-self.ensures.answer }
 
 pub returns : goal.returns
 returns c =
@@ -34,9 +34,9 @@ returns c =
     let low = c.args.self.now.within in
     let was = ap (λ b. texts_at b (drop at bs)) o in
     let p = c.past-self.ensures.answer in
-    let q = c.is-comma-self.ensures.answer in
+    let q = c.is_comma-self.ensures.answer in
     record {
-      answer = ap Some c.cell-from-cell.ensures.answer ∙ sym (ap (λ ts. first (placed at ts)) (was ∙ texts_next bs at e (ends k) low));
+      answer = ap Some c.cell_from-cell.ensures.answer ∙ sym (ap (λ ts. first (placed at ts)) (was ∙ texts_next bs at e (ends k) low));
       after = (λ t. placed (p t) (texts_at (q t) (drop (p t) bs))) ∙ places_next bs at e (ends k) low ∙ sym (ap (λ ts. others (placed at ts)) was);
       same = record { bytes = refl; lines = (λ t. after_at (q t) (drop (p t) bs)) ∙ sym (after_next bs at e (ends k) low) ∙ sym (ap (λ b. after_at b (drop at bs)) o) };
     }

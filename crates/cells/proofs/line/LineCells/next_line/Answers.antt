@@ -6,4 +6,4 @@ use Rattle.std.proofs.Common.{length, sym, ap, arith}
 
 pub loop-self-smaller : goal.loop-self-smaller
 loop-self-smaller c =
-    omega (arith, ap length c.next-cell-cell.ensures.after, others_less (cells_left c.loop-self.self) (sym c.loop-self-test.ensures.answer))
+    omega (arith, ap length c.next_cell-cell.ensures.after, others_less (cells_left c.loop-self.self) (sym c.loop-self-test.ensures.answer))

@@ -3,34 +3,34 @@ use Rattle.std.proofs.Common.{◌+◌, get_or, arith}
 use Rattle.std.proofs.lemmas.List.FromFn.{fill_by_all}
 use Rattle.parting.specs.Running.{running_share}
 use Rattle.parting.proofs.Bounds.{product_fits}
-use Rattle.parting.specs.RunningLaw.{front_le, given-le, reached-lies, seen_more, share-is}
+use Rattle.parting.specs.RunningLaw.{front_le, given_le, reached_lies, seen_more, share_is}
 use Rattle.parting.proofs.Writing.{written}
 use Rattle.parting.proofs.running.RunningPartingRule.part.Goals as goal
 
-pub overflow-add-seen : goal.overflow-add-seen
-overflow-add-seen c = omega (arith, c.loop-i.invariant.1, c.requires.asked.total_most, front_le _ _ c.requires.asked _ c.loop-i-test.true)
+pub overflow_add-seen : goal.overflow_add-seen
+overflow_add-seen c = omega (arith, c.loop-i.invariant.1, c.requires.asked.total_most, front_le _ _ c.requires.asked _ c.loop-i-test.true)
 
-pub whole-paise-reached-requires : goal.whole-paise-reached-requires
-whole-paise-reached-requires c =
+pub whole_paise-reached-requires : goal.whole_paise-reached-requires
+whole_paise-reached-requires c =
     let seen = c.loop-i.seen + get_or c.args.weights.now c.loop-i.i 0 in
     record {
       weighs = omega (arith, c.loop-i.invariant.0, c.requires.asked.weighs);
       fits = product_fits _ _ c.requires.asked seen (omega (arith, c.loop-i.invariant.1, front_le _ _ c.requires.asked _ c.loop-i-test.true));
     }
 
-pub overflow-sub-into : goal.overflow-sub-into
-overflow-sub-into c =
+pub overflow_sub-into : goal.overflow_sub-into
+overflow_sub-into c =
     let inv = c.loop-i.invariant in
-    given-le _ _ c.requires.asked _ _ _ _ _ c.loop-i-test.true inv.0 inv.1 inv.2 inv.3 c.whole-paise-reached.ensures.answer
+    given_le _ _ c.requires.asked _ _ _ _ _ c.loop-i-test.true inv.0 inv.1 inv.2 inv.3 c.whole_paise-reached.ensures.answer
 
 pub loop-i-preserved : goal.loop-i-preserved
 loop-i-preserved c =
     let inv = c.loop-i.invariant in
     let asked = c.requires.asked in
     let h = c.loop-i-test.true in
-    let next = c.whole-paise-reached.ensures.answer in
-    let lies = reached-lies _ _ asked _ _ _ _ _ h inv.0 inv.1 inv.2 inv.3 next in
-    let share = share-is _ _ asked _ _ _ _ _ h inv.0 inv.1 inv.2 inv.3 next in (
+    let next = c.whole_paise-reached.ensures.answer in
+    let lies = reached_lies _ _ asked _ _ _ _ _ h inv.0 inv.1 inv.2 inv.3 next in
+    let share = share_is _ _ asked _ _ _ _ _ h inv.0 inv.1 inv.2 inv.3 next in (
       inv.0,
       seen_more _ _ asked _ _ _ _ _ h inv.0 inv.1 inv.2 inv.3 next,
       lies.0,

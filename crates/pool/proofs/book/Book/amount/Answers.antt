@@ -6,11 +6,11 @@ use Rattle.pool.proofs.book.Book.amount.Goals as goal
 
 pub returns : goal.returns
 returns c =
-    let lt : c.in-ok-place.place < c.args.self.now.count = search rules in
+    let lt : c.in_ok-place.place < c.args.self.now.count = search rules in
     record {
       answer = search rules;
       after = search rules;
-      sound = member_sound c.args.self.now c.in-ok-place.place (with_amount c.in-Some.amount) c.requires lt
-          (c.requires.long c.in-ok-place.place (omega (arith, c.requires.few)))
-          (λ k. c.requires.fine c.in-ok-place.place k);
+      sound = member_sound c.args.self.now c.in_ok-place.place (with_amount c.in-Some.amount) c.requires lt
+          (c.requires.long c.in_ok-place.place (omega (arith, c.requires.few)))
+          (λ k. c.requires.fine c.in_ok-place.place k);
     }

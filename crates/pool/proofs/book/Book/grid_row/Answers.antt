@@ -9,12 +9,12 @@ pub returns : goal.returns
 returns c =
     let b = c.args.self.now in
     let e = c.in-Some.ensures.answer in
-    let f = c.in-Some-grid-row.ensures.answer in
+    let f = c.in-Some-grid_row.ensures.answer in
     let lt : c.in-Some.block < blocks = search rules in
-    let fits : grid_fine (Some c.in-Some-grid-row.row) ≡ true = search rules in
+    let fits : grid_fine (Some c.in-Some-grid_row.row) ≡ true = search rules in
     let stored = ap (λ gs. record { members = b.members; count = b.count; grid = gs; day = b.day; opened = b.opened; accounts = b.accounts; cash = b.cash }) c.put.ensures.after in
     record {
       answer = search rules;
       after = search rules;
-      sound = subst Sound (sym stored) (grid_sound b c.in-Some.block c.in-Some-grid-row.row c.requires lt fits);
+      sound = subst Sound (sym stored) (grid_sound b c.in-Some.block c.in-Some-grid_row.row c.requires lt fits);
     }

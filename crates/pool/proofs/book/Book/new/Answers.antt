@@ -17,8 +17,8 @@ made_of m g a = record { members = replicate most_members m; count = 0; grid = g
 pub returns : goal.returns
 unfolding made_of
 returns c =
-    let e : made_of c.without-entries-vacant.result c.no-grid-rows-grid.result c.new-accounts.result.table ≡ fresh =
-    ap (λ m. made_of m c.no-grid-rows-grid.result c.new-accounts.result.table) c.without-entries-vacant.ensures.answer
-    ∙ (ap (λ g. made_of vacant g c.new-accounts.result.table) c.no-grid-rows-grid.ensures.answer
+    let e : made_of c.without_entries-vacant.result c.no_grid_rows-grid.result c.new-accounts.result.table ≡ fresh =
+    ap (λ m. made_of m c.no_grid_rows-grid.result c.new-accounts.result.table) c.without_entries-vacant.ensures.answer
+    ∙ (ap (λ g. made_of vacant g c.new-accounts.result.table) c.no_grid_rows-grid.ensures.answer
     ∙ ap (made_of vacant no_entries) c.new-accounts.ensures.answer) in
     record { answer = e; sound = subst Sound (sym e) fresh_sound }

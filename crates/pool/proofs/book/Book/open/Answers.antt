@@ -20,9 +20,9 @@ returns c =
     let d : c.in-Some.day ≡ nat_abs c.args.day = search rules in
     let later : b.day < nat_abs c.args.day = omega arith in
     let dated : nat_abs c.args.day ≤ most_day = search rules in
-    let after : begun_with b c.clear-all.new.members c.no-grid-rows-self.result c.in-Some.day ≡ opened_on b c.args.day =
-    ap (λ ms. begun_with b ms c.no-grid-rows-self.result c.in-Some.day) c.clear-all.ensures.after
-    ∙ (ap (λ gs. begun_with b (map cleared b.members) gs c.in-Some.day) c.no-grid-rows-self.ensures.answer
+    let after : begun_with b c.clear_all.new.members c.no_grid_rows-self.result c.in-Some.day ≡ opened_on b c.args.day =
+    ap (λ ms. begun_with b ms c.no_grid_rows-self.result c.in-Some.day) c.clear_all.ensures.after
+    ∙ (ap (λ gs. begun_with b (map cleared b.members) gs c.in-Some.day) c.no_grid_rows-self.ensures.answer
     ∙ ap (begun_with b (map cleared b.members) no_entries) d) in
     record {
       answer = search rules;

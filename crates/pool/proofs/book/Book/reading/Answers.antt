@@ -15,16 +15,16 @@ use Rattle.pool.proofs.book.Book.reading.Goals as goal
 pub returns : goal.returns
 returns c =
     let b = c.args.self.now in
-    let m = c.in-ok-place.place in
-    let row = c.in-Some-reading-row.row in
-    let lt : c.in-ok-place.place < c.args.self.now.count = search rules in
+    let m = c.in_ok-place.place in
+    let row = c.in-Some-reading_row.row in
+    let lt : c.in_ok-place.place < c.args.self.now.count = search rules in
     let lk : c.in-Some.block < blocks = search rules in
     let z = to_z w64 (of_z w64 c.args.member) in
-    let found = metered_is b.count (kind_of_member b z) z m c.in-ok-place.kind (sym c.in-ok-place.ensures.answer) in
-    let is : (member_at b.members m).kind ≡ Metered c.in-ok-place.kind = ap (λ i. (member_at b.members i).kind) (sym found.0) ∙ found.1 in
-    let f = c.in-Some-reading-row.ensures.answer in
+    let found = metered_is b.count (kind_of_member b z) z m c.in_ok-place.kind (sym c.in_ok-place.ensures.answer) in
+    let is : (member_at b.members m).kind ≡ Metered c.in_ok-place.kind = ap (λ i. (member_at b.members i).kind) (sym found.0) ∙ found.1 in
+    let f = c.in-Some-reading_row.ensures.answer in
     let fits : reading_fine (member_at b.members m).kind (Some row) ≡ true =
-    subst (λ r. reading_fine (member_at b.members m).kind (Some r) ≡ true) (sym f.1) (row_fine (member_at b.members m).kind c.in-ok-place.kind (to_z w64 (of_z w64 c.args.scheduled)) (to_z w64 (of_z w64 c.args.metered)) (to_z w64 (of_z w64 c.args.available)) is f.0) in
+    subst (λ r. reading_fine (member_at b.members m).kind (Some r) ≡ true) (sym f.1) (row_fine (member_at b.members m).kind c.in_ok-place.kind (to_z w64 (of_z w64 c.args.scheduled)) (to_z w64 (of_z w64 c.args.metered)) (to_z w64 (of_z w64 c.args.available)) is f.0) in
     let x = member_at b.members m in
     let stored = ap (λ rs. record { members = set b.members m (record { kind = x.kind; amount = x.amount; readings = rs }); count = b.count; grid = b.grid; day = b.day; opened = b.opened; accounts = b.accounts; cash = b.cash }) c.put.ensures.after in
     record {

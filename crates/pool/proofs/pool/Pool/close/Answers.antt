@@ -14,7 +14,7 @@ returns g c =
     let b = c.args.self.now.book in
     let rs = records_of m (g.R.PartingRule.shares c.args.self.now.rule) b in
     let old = c.args.records.now in
-    let h = c.in-ok-settle.ensures in
+    let h = c.in_ok-settle.ensures in
     record {
       answer = h.answer ∙ ap (λ o. unless (not o) WrongMoment (settling m b (length old))) (sym c.if-not-self.false);
       records = h.records;

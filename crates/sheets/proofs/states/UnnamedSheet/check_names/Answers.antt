@@ -7,11 +7,11 @@ use Rattle.std.proofs.Common.{Err, ap, ◌∙◌}
 
 pub returns-in-Some : goal.returns-in-Some
 returns-in-Some g c =
-    record { answer = ap (or_names g.K.SheetKind.table.number) c.in-Some.ensures.answer; law = any_order g.K.SheetKind.table.names g.met.K.SheetKind.apart }
+    record { answer = ap (or_names g.K.SheetKind.table.number) c.in-Some.ensures.answer; law = any_order g.K.SheetKind.table.names g.met.K.SheetKind.names_apart }
 
 pub returns-in-None : goal.returns-in-None
 returns-in-None g c =
     record {
       answer = ap (λ n. Err (Names n)) c.sheet.ensures.answer ∙ ap (or_names g.K.SheetKind.table.number) c.in-None.ensures.answer;
-      law = any_order g.K.SheetKind.table.names g.met.K.SheetKind.apart;
+      law = any_order g.K.SheetKind.table.names g.met.K.SheetKind.names_apart;
     }
