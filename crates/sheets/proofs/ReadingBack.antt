@@ -14,6 +14,8 @@ use Rattle.sheets.specs.Small.{Small, SmallRows}
 use Rattle.sheets.specs.Written.{with_commas, line_of, names_in, digits_in, written_rows, written, EachPlace, ReadsBack}
 use Rattle.std.proofs.lemmas.List.{append-nil, append_assoc, get_or_push, get_or-map, length-map, length_push}
 use Rattle.std.proofs.lemmas.Bool.{cond-true, cond-false, and_left, eq-eqb, ne_eqb, le-ltb}
+use Rattle.std.proofs.lemmas.List.Elements.{All-head, All-tail}
+use Rattle.std.specs.List.{AllByRecursion}
 
 -- written cells, read into values
 read_put : (table : Table) (line : ℕ) (row : List ℕ) → Small row → (ks : List ℕ) (i : ℕ) (values : List ℕ) → read_cells table line ks i (digits_in row ks) values ≡ Ok (put_at row ks values)
@@ -35,11 +37,11 @@ rows_ended columns p (row ∷ rows) =
     let same : ((((p ++ line_feed ∷ []) ++ l) ++ line_feed ∷ []) ++ rest) ≡ ((p ++ line_feed ∷ []) ++ ((l ++ line_feed ∷ []) ++ rest)) = simp append_assoc in
     ap (λ x. get_or x (length x - 1) 0) (sym same) ∙ rows_ended columns ((p ++ line_feed ∷ []) ++ l) rows
 
-lines_back : (cs : List (List ℕ)) (rest : List ℕ) → All Clean cs → lines (line_of cs ++ rest) ≡ with_commas cs ∷ lines rest
+lines_back : (cs : List (List ℕ)) (rest : List ℕ) → AllByRecursion Clean cs → lines (line_of cs ++ rest) ≡ with_commas cs ∷ lines rest
 lines_back cs rest h = ap lines (append_assoc (with_commas cs) (line_feed ∷ []) rest) ∙ line_cut (with_commas cs) rest (unbroken cs h)
 
 module _ (table : Table) (columns : List ℕ) (some : 0 < length table.names) (places : EachPlace (length table.names) columns) where
-  digits_clean : (row : List ℕ) → Small row → All Clean (digits_in row columns)
+  digits_clean : (row : List ℕ) → Small row → AllByRecursion Clean (digits_in row columns)
   digits_clean row small = all_clean (λ k. decimal (get_or row k 0)) (λ k. decimal_clean (get_or row k 0) (at_small row k small)) columns
 
   line_back : (line : ℕ) (row : List ℕ) → length row ≡ length table.names → Small row → read_row table line columns (cells (with_commas (digits_in row columns))) ≡ Ok row
@@ -54,8 +56,8 @@ module _ (table : Table) (columns : List ℕ) (some : 0 < length table.names) (p
   rows_back line [] full small = refl
   rows_back line (row ∷ rows) full small =
       ap (rows_from table columns line) (lines_back (digits_in row columns) (written_rows columns rows) (digits_clean row small.0))
-      ∙ ap (λ r. and_row r (λ v. map_ok (λ vs. v ∷ vs) (rows_from table columns (line + 1) (lines (written_rows columns rows))))) (line_back line row full.0 small.0)
-      ∙ ap (map_ok (λ vs. row ∷ vs)) (rows_back (line + 1) rows full.1 small.1)
+      ∙ ap (λ r. and_row r (λ v. map_ok (λ vs. v ∷ vs) (rows_from table columns (line + 1) (lines (written_rows columns rows))))) (line_back line row (All-head (λ r. length r ≡ length table.names) row rows full) small.0)
+      ∙ ap (map_ok (λ vs. row ∷ vs)) (rows_back (line + 1) rows (All-tail (λ r. length r ≡ length table.names) row rows full) small.1)
 
   named : EachOnce table.names (names_in table.names columns) columns
   named =
@@ -70,7 +72,7 @@ module _ (table : Table) (columns : List ℕ) (some : 0 < length table.names) (p
       }
 
   module _ (no-twice : apart table.names ≡ true) (plain : plain_names table.names ≡ true) where
-    names_clean : All Clean (names_in table.names columns)
+    names_clean : AllByRecursion Clean (names_in table.names columns)
     names_clean = all_clean (λ k. get_or table.names k []) (name_clean table.names plain) columns
 
     names_back : columns_of table.names (cells (with_commas (names_in table.names columns))) ≡ Some columns

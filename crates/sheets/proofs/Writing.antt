@@ -1,15 +1,15 @@
 -- Written text cut into its lines and cells again, and written digits read again.
-use Rattle.std.proofs.Common.{◌≡◌, ℕ, zero, suc, ◌+◌, ◌-◌, ◌*◌, ◌^◌, ◌<◌, ◌≤◌, true, false, ◌&&◌, eqb, ltb, leb, List, [], ◌∷◌, ◌++◌, map, length, get_or, Some, None, decimal, All, refl, ap, ◌∙◌, ⊎_elim, arith}
+use Rattle.std.proofs.Common.{◌≡◌, ℕ, zero, suc, ◌+◌, ◌-◌, ◌*◌, ◌^◌, ◌<◌, ◌≤◌, true, false, ◌&&◌, eqb, ltb, leb, List, [], ◌∷◌, ◌++◌, map, length, get_or, Some, None, decimal, refl, ap, ◌∙◌, ⊎_elim, arith}
 use Rattle.cells.specs.Cells.{cells, lines, onto, comma, line_feed}
 use Rattle.cells.specs.Numbers.{number, empty, meaning, number_or_other, digits_after, most_number}
 use Rattle.sheet_kinds.specs.Tables.{plain_name, plain_names}
 use Rattle.sheets.specs.Written.{after_first, with_commas}
 use Rattle.std.proofs.lemmas.Fmt.{digits_decimal, digits_value-decimal, length-decimal-le, decimal_nonempty, first_decimal}
-use Rattle.std.proofs.lemmas.List.Elements.{All-append}
 use Rattle.std.proofs.lemmas.List.{append-nil}
 use Rattle.std.proofs.lemmas.Str.Parse.{IsNumeralModel, numerals_by_fold}
 use Rattle.std.proofs.lemmas.Bool.{cond-true, cond-false, cases_lt, and_parts, and_from, and_left, and_right, or_from, ne_eqb, le-leb, le-ltb, leb-true}
 use Rattle.std.specs.Int.{IsInRange}
+use Rattle.std.specs.List.{AllByRecursion as All}
 
 -- bytes that are neither a comma nor a line feed, nor the first of the mark
 abbrev pub Clean : List ℕ → Type 0
@@ -18,6 +18,11 @@ Clean c = All (λ b. (44 < b) × (b < 239)) c
 -- no line feed
 abbrev pub Unbroken : List ℕ → Type 0
 Unbroken l = All (λ b. 10 < b) l
+
+-- what holds of each element of two lists holds of each of both together
+both_all : (P : ℕ → Type 0) (xs ys : List ℕ) → All P xs → All P ys → All P (xs ++ ys)
+both_all P [] ys h k = k
+both_all P (x ∷ xs) ys h k = (h.0, both_all P xs ys h.1 k)
 
 pub line_cut : (l rest : List ℕ) → Unbroken l → lines (l ++ line_feed ∷ rest) ≡ l ∷ lines rest
 line_cut [] rest h = refl
@@ -46,11 +51,11 @@ clean_unbroken (b ∷ bs) h = (omega (arith, h.0.0), clean_unbroken bs h.1)
 
 rest_unbroken : (cs : List (List ℕ)) → All Clean cs → Unbroken (after_first cs)
 rest_unbroken [] h = tt
-rest_unbroken (c ∷ cs) h = (omega arith, All-append (λ b. 10 < b) c (after_first cs) (clean_unbroken c h.0) (rest_unbroken cs h.1))
+rest_unbroken (c ∷ cs) h = (omega arith, both_all (λ b. 10 < b) c (after_first cs) (clean_unbroken c h.0) (rest_unbroken cs h.1))
 
 pub unbroken : (cs : List (List ℕ)) → All Clean cs → Unbroken (with_commas cs)
 unbroken [] h = tt
-unbroken (c ∷ cs) h = All-append (λ b. 10 < b) c (after_first cs) (clean_unbroken c h.0) (rest_unbroken cs h.1)
+unbroken (c ∷ cs) h = both_all (λ b. 10 < b) c (after_first cs) (clean_unbroken c h.0) (rest_unbroken cs h.1)
 
 pub all_clean : (f : ℕ → List ℕ) → ((k : ℕ) → Clean (f k)) → (ks : List ℕ) → All Clean (map f ks)
 all_clean f h [] = tt

@@ -1,5 +1,5 @@
 -- One block more: its charge and its direction go from what is to come to the sums so far.
-use Rattle.std.proofs.Common.{List, ◌∷◌, get_or, ◌+ℤ◌, None, ap, ◌∙◌, arith}
+use Rattle.std.proofs.Common.{◌≡◌, IfSome, List, ◌∷◌, get_or, ◌+ℤ◌, None, ap, ◌∙◌, arith}
 use Rattle.facts.specs.Facts.{plain}
 use Rattle.std.proofs.lemmas.List.Elements.{All-get_or}
 use Rattle.std.proofs.lemmas.Option.{MatchOption-from_none}
@@ -33,7 +33,7 @@ loop-block-preserved g c =
       omega arith,
       λ scheduled.
           let was = c.loop-block.invariant.3 scheduled in
-          let level = c.charge_by.ensures.level (level_at c.args.kind (get_or rs i None) (get_or gs i None) f some (All-get_or _ rs i None (omega arith) scheduled)) in
+          let level = c.charge_by.ensures.level (level_at c.args.kind (get_or rs i None) (get_or gs i None) f some (All-get_or (λ r. IfSome r (λ e. e.metered ≡ e.scheduled)) rs i None (omega arith) scheduled)) in
           omega (arith, ints),
     )
 

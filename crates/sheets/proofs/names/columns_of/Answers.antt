@@ -65,7 +65,7 @@ returns-then-has_cell g c =
 pub invariant_of-result : goal.invariant_of-result
 invariant_of-result g c =
     let n = count g (goal.at.invariant_of-result g c).After-names-names in
-    (omega (arith, c.names-names.ensures.few), (λ i h. omega (arith, c.loop-i.invariant.inside i (omega arith), n), tt))
+    record { few = omega (arith, c.names-names.ensures.few); inside = λ i h. omega (arith, c.loop-i.invariant.inside i (omega arith), n) }
 
 pub returns : goal.returns
 returns g c =
