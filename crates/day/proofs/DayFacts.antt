@@ -1,6 +1,7 @@
 -- The facts of a day that has its entries. Assumes nothing.
-use Rattle.std.proofs.Common.{◌≡◌, ℕ, Bool, true, false, List, [], ◌∷◌, ℤ, pos, ◌+ℤ◌, Some, None, All, Option, unwrap_or, refl, ap, ◌∙◌, subst, arith}
+use Rattle.std.proofs.Common.{◌≡◌, ℕ, Bool, true, false, List, [], ◌∷◌, ℤ, pos, ◌+ℤ◌, Some, None, IfSome, All, Option, unwrap_or, refl, ap, ◌∙◌, subst, arith}
 use Rattle.std.proofs.lemmas.Bool.Decides.{nat_tests}
+use Rattle.std.proofs.lemmas.List.Elements.{All-nil, All-cons, All-head, All-tail}
 use Rattle.std.specs.Option.{option_map, option_zip}
 use Rattle.std.specs.Bool.{then_some}
 use Rattle.facts.specs.Facts.{Facts, Within}
@@ -49,26 +50,25 @@ at_within k (Some r) (Some g) f e = when_within _ f _ e (fit_within k r.schedule
 
 module _ (P : Facts → Type 0) where
   all_cons : (o : Option Facts) (os : Option (List Facts)) → ((f : Facts) → Some f ≡ o → P f) → All P (unwrap_or os []) → All P (unwrap_or (option_map (λ p. p.0 ∷ p.1) (option_zip o os)) [])
-  all_cons None os here rest = tt
-  all_cons (Some f) None here rest = tt
-  all_cons (Some f) (Some fs) here rest = (here f refl, rest)
+  all_cons None os here rest = All-nil P
+  all_cons (Some f) None here rest = All-nil P
+  all_cons (Some f) (Some fs) here rest = All-cons P f fs (here f refl) rest
 
   all_facts : (k : Kind) (Q : Option ReadingEntry → Type 0) (rs : List (Option ReadingEntry)) (gs : List (Option GridEntry)) → ((r : Option ReadingEntry) (g : Option GridEntry) (f : Facts) → Q r → Some f ≡ facts_at k r g → P f) → All Q rs → All P (unwrap_or (day_facts k rs gs) [])
-  all_facts k Q [] [] each qs = tt
-  all_facts k Q [] (g ∷ gs) each qs = tt
-  all_facts k Q (r ∷ rs) [] each qs = tt
+  all_facts k Q [] [] each qs = All-nil P
+  all_facts k Q [] (g ∷ gs) each qs = All-nil P
+  all_facts k Q (r ∷ rs) [] each qs = All-nil P
   all_facts k Q (r ∷ rs) (g ∷ gs) each qs =
-      all_cons (facts_at k r g) (day_facts k rs gs) (λ f e. each r g f qs.0 e) (all_facts k Q rs gs each qs.1)
+      all_cons (facts_at k r g) (day_facts k rs gs) (λ f e. each r g f (All-head Q r rs qs) e) (all_facts k Q rs gs each (All-tail Q r rs qs))
 
 all_unit : {X : Type 0} (xs : List X) → All (λ _. Unit {0}) xs
-all_unit [] = tt
-all_unit (x ∷ xs) = (tt, all_unit xs)
+all_unit xs = λ k d h. tt
 
 -- ---- what they come to
 
 base_alike : (m n : Facts → ℤ) (fs : List Facts) → All (λ f. m f ≡ n f) fs → base_of m fs ≡ base_of n fs
 base_alike m n [] same = refl
-base_alike m n (f ∷ fs) same = ap (λ z. z +ℤ base_of m fs) same.0 ∙ ap (λ z. n f +ℤ z) (base_alike m n fs same.1)
+base_alike m n (f ∷ fs) same = ap (λ z. z +ℤ base_of m fs) (All-head (λ f'. m f' ≡ n f') f fs same) ∙ ap (λ z. n f +ℤ z) (base_alike m n fs (All-tail (λ f'. m f' ≡ n f') f fs same))
 
 base_nothing : (fs : List Facts) → base_of (λ _. pos 0) fs ≡ pos 0
 base_nothing [] = refl
@@ -80,7 +80,7 @@ module _ (m : Facts → ℤ) (level : (f : Facts) → Within f → f.metered ≡
   due_level k is scheduled =
       let fs = facts_in k gs mb in
       let n = sevenths_of fs in
-      let each = all_facts (λ f. m f ≡ pos 0) k _ mb.readings gs (λ r g f q e. level f (at_within k r g f e) (level_at k r g f e q)) scheduled in
+      let each = all_facts (λ f. m f ≡ pos 0) k (λ r. IfSome r (λ e. e.metered ≡ e.scheduled)) mb.readings gs (λ r g f q e. level f (at_within k r g f e) (level_at k r g f e q)) scheduled in
       let base : base_of m fs ≡ pos 0 = base_alike m (λ _. pos 0) fs each ∙ base_nothing fs in
       let none = (nothing_due k n (money (pos 0)) (money (pos (surcharge_of k n (pos 0)))) refl refl).1 in
       ap (λ x. due_as m gs x mb) is ∙ (ap (due_on k n) base ∙ ap with_surcharge none)
