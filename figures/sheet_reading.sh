@@ -7,9 +7,9 @@ times=${1:-20000}
 scratch=$(mktemp -d)
 trap 'rm -rf "$scratch"' EXIT
 
-rt check reading_speed >"$scratch/check"
+(cd crates/reading_speed && rt run) >"$scratch/check" 2>&1
 cargo build --quiet --release --offline --manifest-path host/Cargo.toml
-target/bin/reading_speed "$times" >"$scratch/ours" 2>"$scratch/ours.time"
+crates/reading_speed/out/reading_speed "$times" >"$scratch/ours" 2>"$scratch/ours.time"
 host/target/release/host plain_sheet "$times" >"$scratch/plain" 2>"$scratch/plain.time"
 cmp "$scratch/ours" "$scratch/plain"
 cat "$scratch/ours"
@@ -23,7 +23,7 @@ if ! command -v valgrind >"$scratch/where"; then
     echo "instructions are not counted: valgrind is not installed"
     exit 0
 fi
-valgrind --quiet --tool=callgrind --callgrind-out-file="$scratch/counts" target/bin/reading_speed 100 >"$scratch/run" 2>&1
+valgrind --quiet --tool=callgrind --callgrind-out-file="$scratch/counts" crates/reading_speed/out/reading_speed 100 >"$scratch/run" 2>&1
 echo "instructions for a byte, by function (101 readings and the making of the sheet):"
 callgrind_annotate "$scratch/counts" | awk -v bytes="$((101 * bytes))" '
     /^ *[0-9,]+ \(/ && !/PROGRAM TOTALS/ {

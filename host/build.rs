@@ -5,9 +5,9 @@ use std::path::PathBuf;
 
 fn main() {
     let host = PathBuf::from(env::var_os("CARGO_MANIFEST_DIR").expect("cargo names the folder"));
-    let folder = host.join("../target/staticlib");
     let libraries = ["capi", "host_calls"];
-    let file = |name: &str| folder.join(format!("lib{name}.a"));
+    let folder = |name: &str| host.join(format!("../crates/{name}/out"));
+    let file = |name: &str| folder(name).join(format!("lib{name}.a"));
     println!("cargo:rerun-if-changed=build.rs");
     println!("cargo:rustc-check-cfg=cfg(linked)");
     for name in libraries {
@@ -15,8 +15,8 @@ fn main() {
     }
     if libraries.iter().all(|name| file(name).exists()) {
         println!("cargo:rustc-cfg=linked");
-        println!("cargo:rustc-link-search=native={}", folder.display());
         for name in libraries {
+            println!("cargo:rustc-link-search=native={}", folder(name).display());
             println!("cargo:rustc-link-lib=static={name}");
         }
     }

@@ -1,19 +1,20 @@
 #!/bin/sh
 # Shows that each misuse of a sheet is refused with its own error, and that its mended twin passes.
-# Run it where crates.txt stands, after 'rt check': it needs target/rlib.
+# Run it where crates.txt stands. The programs are checked above copies of the crates that they use.
 set -u
 scratch=$(mktemp -d)
 trap 'rm -rf "$scratch"' EXIT
-lib=$PWD/target/rlib
 bad=0
+
+mkdir -p "$scratch/crates/program/src"
+cp -r crates/cells crates/sheet_kinds crates/sheets "$scratch/crates/"
+grep -E '^(cells|sheet_kinds|sheets):' crates.txt >"$scratch/crates.txt"
+echo 'program: sheet_kinds sheets' >>"$scratch/crates.txt"
 
 # copies one program into the scratch folder and checks it there
 try() {
-    rm -rf "$scratch/program"
-    mkdir -p "$scratch/program/src"
-    cp "misuse/$1/src/lib.rt.txt" "$scratch/program/src/lib.rt"
-    rt check "$scratch/program" --extern "cells=$lib/cells.rlib" --extern "sheet_kinds=$lib/sheet_kinds.rlib" \
-        --extern "sheets=$lib/sheets.rlib" -L "dependency=$lib" >"$scratch/out" 2>&1
+    cp "misuse/$1/src/lib.rt.txt" "$scratch/crates/program/src/lib.rt"
+    (cd "$scratch/crates/program" && rt check) >"$scratch/out" 2>&1
 }
 
 # $1: the program; $2: the text of the error that must refuse it

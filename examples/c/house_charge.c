@@ -4,9 +4,9 @@
  *
  * Built and run from the top of the repository by
  *
- *   rt staticlib capi
- *   cc -O2 -Wall -Wextra -Iinclude -o target/house_charge examples/c/house_charge.c target/staticlib/libcapi.a
- *   target/house_charge 2 20000 17000 0 4980 4000
+ *   (cd crates/capi && rt lib)
+ *   cc -O2 -Wall -Wextra -Iinclude -o crates/capi/out/house_charge examples/c/house_charge.c crates/capi/out/libcapi.a
+ *   crates/capi/out/house_charge 2 20000 17000 0 4980 4000
  */
 #include <inttypes.h>
 #include <stdio.h>

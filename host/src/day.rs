@@ -352,7 +352,7 @@ mod tests {
 
     #[test]
     fn runs_are_surcharged_but_for_solar_and_wind() {
-        let due = |kind, deviation, blocks| due(&metered(kind, deviation, blocks), &GRID);
+        let due = |kind, deviation, blocks| due::<false>(&metered(kind, deviation, blocks), &GRID);
         let expected = |base, surcharge| {
             Some(Due {
                 base,

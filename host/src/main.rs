@@ -27,8 +27,8 @@ const USAGE: &str =
                      | host read FOLDER | host speed | host plain_sheet COUNT | host worked_examples \
                      | host worked_days";
 const MISSING: &str =
-    "host: target/staticlib/libcapi.a or libhost_calls.a was missing when the host \
-                       was built; build them, then the host again";
+    "host: libcapi.a or libhost_calls.a was missing in crates/capi/out or \
+                       crates/host_calls/out when the host was built; build them, then the host again";
 
 fn main() -> ExitCode {
     let words: Vec<String> = std::env::args().skip(1).collect();

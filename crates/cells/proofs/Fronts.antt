@@ -1,9 +1,9 @@
 -- The front of the bytes, and the digits that it starts with, byte after byte.
-use Rattle.std.proofs.Common.{◌≡◌, ℕ, suc, ◌+◌, ◌-◌, ◌*◌, ◌<◌, ◌≤◌, Bool, true, false, cond, ◌&&◌, ◌||◌, eqb, ltb, leb, List, [], ◌∷◌, length, get_or, take, drop, Some, None, sym, refl, ap, ◌∙◌, subst, suc-le-suc, zero-le, arith, length-drop}
-use Rattle.cells.specs.Numbers.{is_digit, digits_after, number_of, number_or_other, number, other, empty, meaning, most_digits}
-use Rattle.cells.specs.Scans.{is_stop, front, RunOf}
+use Rattle.std.proofs.Common.{◌≡◌, ℕ, suc, ◌+◌, ◌-◌, ◌*◌, ◌<◌, ◌≤◌, true, false, cond, List, [], ◌∷◌, length, get_or, take, drop, None, refl, ap, ◌∙◌, suc-le-suc, zero-le, arith}
+use Rattle.cells.specs.Numbers.{is_digit, digits_after}
+use Rattle.cells.specs.Scans.{is_stop, front}
 use Rattle.std.proofs.lemmas.List.{drop_more, drop_all}
-use Rattle.std.proofs.lemmas.Bool.{cond-true, cond-false, cond_both, and_parts, leb-true, eqb-true, or_cases, cases_Bool, and_from}
+use Rattle.std.proofs.lemmas.Bool.{cond-true, cond-false}
 use Rattle.std.proofs.lemmas.Bool.Decides.{nat_tests}
 
 pub front_le : (bs : List ℕ) → length (front bs) ≤ length bs

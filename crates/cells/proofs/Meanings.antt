@@ -1,8 +1,8 @@
 -- What the digits that a cell starts with say of its bytes.
-use Rattle.std.proofs.Common.{◌≡◌, ℕ, suc, ◌+◌, ◌-◌, ◌*◌, ◌<◌, ◌≤◌, Bool, true, false, cond, not, ◌&&◌, ◌||◌, eqb, ltb, List, [], ◌∷◌, length, get_or, take, drop, Some, None, Option, sym, refl, ap, ◌∙◌, subst, ⊎_elim, arith, length-drop}
-use Rattle.cells.proofs.Fronts.{front_le, front_take, front_here, front_on, front_past}
+use Rattle.std.proofs.Common.{◌≡◌, ℕ, ◌+◌, ◌-◌, ◌<◌, ◌≤◌, Bool, true, false, cond, not, ◌&&◌, ◌||◌, eqb, ltb, List, length, get_or, take, drop, Some, None, Option, sym, refl, ap, ◌∙◌, ⊎_elim, arith, length-drop}
+use Rattle.cells.proofs.Fronts.{front_le, front_take, front_here, front_on}
 use Rattle.cells.specs.Cells.{CellShown, cell_at}
-use Rattle.cells.specs.Numbers.{Meaning, is_digit, digits_after, number_of, number_or_other, number, other, empty, meaning, most_digits}
+use Rattle.cells.specs.Numbers.{Meaning, digits_after, number_or_other, number, other, empty, meaning}
 use Rattle.cells.specs.Scans.{is_stop, front, RunOf}
 use Rattle.std.proofs.lemmas.List.{get_or-take, get_or-drop, nil_from_length}
 use Rattle.std.proofs.lemmas.Bool.{cond-true, cond-false, cases_Bool, cases_lt, and_cases, and_parts, or_parts, or_from, and_from, eqb-true, eqb-false, eq-eqb, ne_eqb, not-false, not-true, or_cases, le-ltb, lt-ltb, and_left, and_right}

@@ -1,10 +1,8 @@
 -- A cell taken from the lines.
-use Rattle.std.proofs.Common.{◌≡◌, ℕ, suc, ◌+◌, ◌<◌, ◌≤◌, Bool, true, false, cond, ◌||◌, eqb, ltb, List, [], ◌∷◌, length, get_or, drop, sym, refl, ap, ◌∙◌, subst, ⊎_elim, suc-le-suc, zero-le, arith, length-drop}
-use Rattle.cells.proofs.Fronts.{front_le}
-use Rattle.cells.specs.Cells.{cells, lines, onto, comma, line_feed, placed}
-use Rattle.cells.specs.Left.{first_cells, open_lines, texts_at, after_at, others, is_some_left, cells_left, lines_after}
-use Rattle.cells.specs.declared.line.LineCells.{LineCells}
-use Rattle.cells.specs.Scans.{is_stop, front}
+use Rattle.std.proofs.Common.{◌≡◌, ℕ, suc, ◌+◌, ◌<◌, ◌≤◌, true, false, cond, eqb, ltb, List, [], ◌∷◌, length, get_or, drop, sym, refl, ap, ◌∙◌, subst, ⊎_elim, suc-le-suc, zero-le, arith, length-drop}
+use Rattle.cells.specs.Cells.{lines, onto, comma, line_feed, placed}
+use Rattle.cells.specs.Left.{first_cells, open_lines, texts_at, after_at, others, is_some_left}
+use Rattle.cells.specs.Scans.{front}
 use Rattle.std.proofs.lemmas.List.{drop-drop, drop_all, get_or-drop, get_or_past}
 use Rattle.std.proofs.lemmas.Bool.{true≢false, cond-true, cond-false, cases_Bool, eqb-true, or_from, cases_lt, lt-ltb, le-ltb}
 

@@ -1,5 +1,5 @@
 -- What a cell that was taken says of the cells that were left.
-use Rattle.std.proofs.Common.{◌≡◌, ℕ, ◌+◌, Bool, true, false, List, [], ◌∷◌, length, Some, None, Option, sym, refl, ap, ◌∙◌, arith}
+use Rattle.std.proofs.Common.{◌≡◌, ℕ, ◌+◌, true, false, List, [], ◌∷◌, length, Some, None, Option, sym, refl, ap, ◌∙◌, arith}
 use Rattle.cells.specs.Cells.{CellShown, placed, texts}
 use Rattle.cells.specs.Left.{first, others, is_some_left, cells_left}
 use Rattle.cells.specs.Numbers.{meaning}

@@ -1,5 +1,5 @@
 -- The bytes of the cell that the bytes start with, and the digits that it starts with. Assumes nothing.
-use Rattle.std.specs.Prelude.{◌≡◌, ℕ, ◌+◌, ◌<◌, ◌≤◌, Bool, true, false, cond, ◌||◌, List, [], ◌∷◌, length, drop, ◌==◌, slice_index}
+use Rattle.std.specs.Prelude.{◌≡◌, ℕ, ◌+◌, ◌<◌, ◌≤◌, Bool, false, cond, ◌||◌, List, [], ◌∷◌, length, drop, ◌==◌, slice_index}
 use Rattle.cells.specs.Cells.{comma, line_feed}
 use Rattle.cells.specs.Numbers.{is_digit, digits_after, most_digits}
 

@@ -1,11 +1,11 @@
 -- The rows whose numbers are written, one after another.
-use Rattle.std.proofs.Common.{◌≡◌, ℕ, List, [], ◌∷◌, Ok, Err, Result, sym, refl, ap, ◌∙◌}
-use Rattle.host_calls.specs.Filled.{Room, room_at, put_numbers, put_rows}
+use Rattle.std.proofs.Common.{◌≡◌, ℕ, List}
+use Rattle.host_calls.specs.Filled.{Room, put_rows}
 use Rattle.sheet_kinds.specs.Tables.{Table}
-use Rattle.sheets.proofs.Walks.{rows_left, Handed}
-use Rattle.sheets.specs.Rows.{map_ok, by_place}
+use Rattle.sheets.proofs.Walks.{rows_left}
+use Rattle.sheets.specs.Rows.{map_ok}
 use Rattle.sheets.specs.Sheets.{sheet_rows}
-use Rattle.sheets.specs.States.{Standing, line_less}
+use Rattle.sheets.specs.States.{Standing}
 
 -- with the rows that s has left, the room is what all rows of the sheet make of it
 pub record Filling (table : Table) (numbers : List ℕ → List ℕ) (bs : List ℕ) (s : Standing) (start now : Room ℕ) : Type 0 where

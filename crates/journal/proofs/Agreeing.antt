@@ -1,7 +1,6 @@
 -- A pool that stands after a journal answers as the rules say from that journal. Assumes nothing.
-use Rattle.std.proofs.Common.{◌≡◌, ℕ, suc, ◌<◌, ◌≤◌, Bool, true, false, cond, not, ◌&&◌, ◌||◌, eqb, ltb, List, [], ◌∷◌, map, length, get_or, take, ℤ, pos, negsuc, neg_ℤ, nat_abs, Some, None, Ok, Err, Option, Result, sym, refl, ap, ◌∙◌, subst, inl, inr, arith}
+use Rattle.std.proofs.Common.{◌≡◌, ℕ, ◌<◌, ◌≤◌, Bool, true, false, not, ◌&&◌, eqb, ltb, List, length, get_or, ℤ, pos, negsuc, neg_ℤ, nat_abs, None, Ok, sym, refl, ap, ◌∙◌, inl, inr, arith}
 use lib.Signed.{lt_z}
-use Rattle.std.specs.List.{range_with_len}
 use Rattle.std.proofs.lemmas.List.FromFn.{fill_by_all}
 use Rattle.std.proofs.lemmas.List.{get_or-map, get_or-take, length-map, length-take-le}
 use Rattle.std.proofs.lemmas.Bool.{ltb-true, eqb-true, or_cases, false≢true}
@@ -15,19 +14,18 @@ use Rattle.day.specs.Dues.{charges_of}
 use Rattle.day.specs.Members.{most_members, member_at, nobody}
 use Rattle.day.specs.Records.{record_count}
 use Rattle.day.specs.declared.member.Member.{Member}
-use Rattle.day.specs.declared.member.MemberKind.{MemberKind}
-use Rattle.day.specs.declared.member.MemberKind.TheVariants.{Metered, Regional}
+use Rattle.day.specs.declared.member.MemberKind.TheVariants.{Regional}
 use Rattle.pool.specs.Calls.{kind_of_member}
-use Rattle.pool.specs.Rules.{enrolled, has_account, is_reserve, reserve_account, unless, then_by, metered_at, regional_at, last_block, enrol_rule, open_rule, grid_rule, reading_rule, amount_rule, close_rule, drop_rule, pay_in_rule, pay_out_rule, account_rule}
+use Rattle.pool.specs.Rules.{enrolled, has_account, reserve_account, unless, then_by, metered_at, regional_at, last_block, enrol_rule, open_rule, grid_rule, reading_rule, amount_rule, close_rule, drop_rule, pay_in_rule, pay_out_rule, account_rule}
 use Rattle.pool.specs.Sound.{Sound}
 use Rattle.pool.specs.Standing.{sum_at}
-use Rattle.pool.specs.Tables.{all_entered, kinds_of, members_of}
+use Rattle.pool.specs.Tables.{all_entered, members_of}
 use Rattle.pool.specs.declared.book.Book.{Book}
 use Rattle.pool.specs.declared.refusal.Refusal.TheVariants.{WrongMoment, NotEnrolled, OutsideLimit, MoreThanDue, MoreThanCash}
 use Rattle.journal.specs.Answers.{done, numbered, summed, answer_in}
 use Rattle.journal.specs.Law.{Stands}
 use Rattle.journal.specs.Steps.{outcome}
-use Rattle.journal.specs.Words.{kinds_in, kind_named, open_in, last_day, grid_in, member_in, members_in, last_grid, last_reading, last_amount, owed_by, cash_in}
+use Rattle.journal.specs.Words.{kinds_in, kind_named, open_in, grid_in, member_in, members_in, last_grid, last_reading, owed_by}
 use Rattle.journal.specs.declared.answer.Answer.TheVariants.{Sum}
 use Rattle.journal.specs.declared.call.Call.{Call}
 use Rattle.journal.specs.declared.call.Call.TheVariants.{Enrol, Open, GridRow, Reading, Amount, Close, DropDay, PayIn, PayOut, Account, Cash}

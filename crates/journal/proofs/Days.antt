@@ -1,11 +1,10 @@
 -- What each entry of a journal tells makes closed days fair, and alike days equal. Assumes nothing.
-use Rattle.std.proofs.Common.{◌≡◌, ℕ, ◌<◌, ◌≤◌, Bool, true, false, cond, not, ◌&&◌, ltb, List, [], ◌∷◌, ◌++◌, map, length, get_or, ℤ, pos, None, Ok, Err, Option, Result, sym, refl, ap, ◌∙◌, subst, arith}
+use Rattle.std.proofs.Common.{◌≡◌, ℕ, ◌<◌, ◌≤◌, Bool, true, false, ltb, List, [], ◌∷◌, ◌++◌, map, length, get_or, ℤ, pos, None, Err, sym, refl, ap, ◌∙◌, subst, arith}
 use Rattle.std.specs.List.{range_with_len}
 use Rattle.std.proofs.lemmas.List.FromFn.{fill_by_all, length-map-range_with_len, get_or-map-range_with_len}
 use Rattle.std.proofs.lemmas.Bool.{and_parts, false≢true, cond-true}
 use Rattle.facts.specs.Facts.{Facts, Within}
 use Rattle.member_day.specs.Entries.{blocks}
-use Rattle.member_day.specs.declared.entries.GridEntry.{GridEntry}
 use Rattle.parting.specs.Rule.{Asked, Parted}
 use Rattle.sharing.specs.Shares.{too_much}
 use Rattle.day.specs.Alike.{AlikeTariffs, AlikeRules}
@@ -22,8 +21,7 @@ use Rattle.pool.specs.declared.refusal.Refusal.TheVariants.{TooFewRecords, SideT
 use Rattle.journal.specs.Answers.{done, answer_in}
 use Rattle.journal.specs.Deeds.{deed}
 use Rattle.journal.specs.Law.{Told, Each, ClosedIn, Alike, Same, FairDays, Lawful, no_records}
-use Rattle.journal.specs.Words.{accepted, closed_by, closed_day, kinds_in, open_in, grid_in, member_in, members_in, last_grid, last_reading, last_amount}
-use Rattle.journal.specs.declared.answer.Answer.{Answer}
+use Rattle.journal.specs.Words.{accepted, closed_by, closed_day, kinds_in, open_in, grid_in, member_in, members_in, last_grid, last_reading}
 use Rattle.journal.specs.declared.call.Call.{Call}
 use Rattle.journal.specs.declared.call.Call.TheVariants.{Enrol, Open, GridRow, Reading, Amount, Close, DropDay, PayIn, PayOut, Account, Cash}
 use Rattle.journal.specs.declared.entry.Entry.{Entry}

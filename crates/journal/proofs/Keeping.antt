@@ -1,5 +1,5 @@
 -- One call more: a pool that stands after a journal stands after the call and that journal. Assumes nothing.
-use Rattle.std.proofs.Common.{◌≡◌, ℕ, ◌+◌, ◌<◌, ◌≤◌, Bool, true, false, cond, not, ◌&&◌, eqb, leb, List, [], ◌∷◌, ◌++◌, map, reverse, length, get_or, take, drop, set, replicate, ℤ, pos, negsuc, ◌+ℤ◌, ◌-ℤ◌, neg_ℤ, nat_abs, is_some, is_ok, Some, None, Ok, Err, Option, Result, sym, refl, ap, ◌∙◌, subst, arith}
+use Rattle.std.proofs.Common.{◌≡◌, ℕ, ◌<◌, Bool, true, false, cond, not, ◌&&◌, eqb, leb, List, [], ◌∷◌, ◌++◌, map, length, get_or, drop, ℤ, pos, negsuc, ◌+ℤ◌, ◌-ℤ◌, neg_ℤ, nat_abs, is_some, is_ok, Some, None, Ok, Err, Result, sym, refl, ap, ◌∙◌, subst, arith}
 use mathlib.Core.List.{reverse-cons}
 use Rattle.std.proofs.lemmas.List.{take_more_set, map_push, get_or-replicate, append-nil}
 use Rattle.std.proofs.lemmas.Int.{ints}
@@ -10,18 +10,14 @@ use Rattle.facts.specs.Facts.{Facts}
 use Rattle.facts.specs.Refusals.{grid_fits, reading_fits}
 use Rattle.quantities.specs.Money.{money}
 use Rattle.member_day.specs.Entries.{blocks}
-use Rattle.member_day.specs.declared.entries.GridEntry.{GridEntry}
-use Rattle.member_day.specs.declared.entries.ReadingEntry.{ReadingEntry}
 use Rattle.day.specs.Members.{most_members, member_at, nobody, member_kind_of}
-use Rattle.day.specs.Records.{day_records, nothing, record_count}
-use Rattle.day.specs.declared.member.Member.{Member}
-use Rattle.day.specs.declared.member.MemberKind.{MemberKind}
+use Rattle.day.specs.Records.{day_records, record_count}
 use Rattle.day.specs.declared.record.Record.{Record}
 use Rattle.pool.specs.Calls.{enrolling, enrolled_as, kind_numbered, opening, opened_on, entering_grid, with_grid, entering_reading, read_by, entering_amount, amount_by, closing_of, closed_with, records_of, dropping, ended, paying_in, paid_in, paying_out, paid_out, asking, kind_of_member}
 use Rattle.pool.specs.Rules.{enrolled, has_account, last_block, metered_member, regional_member, then_by, unless}
 use Rattle.pool.specs.Sound.{Sound}
-use Rattle.pool.specs.Standing.{sum_at, posted, line_at, owing}
-use Rattle.pool.specs.Tables.{kinds_of, members_of, fresh, no_entries, cleared, of_kind, with_reading, with_amount, reading_entry, grid_entry, vacant}
+use Rattle.pool.specs.Standing.{sum_at, owing}
+use Rattle.pool.specs.Tables.{kinds_of, members_of, fresh, no_entries, of_kind, with_reading, with_amount, reading_entry, grid_entry, vacant}
 use Rattle.pool.specs.declared.book.Book.{Book}
 use Rattle.pool.specs.declared.refusal.Refusal.{Refusal}
 use Rattle.pool.specs.declared.refusal.Refusal.TheVariants.{OutsideLimit}
@@ -29,10 +25,9 @@ use Rattle.pool.proofs.Accepted.{passed}
 use Rattle.pool.proofs.Members.{cleared_at}
 use Rattle.pool.proofs.Totals.{sum_at_added, sum_at_posted}
 use Rattle.journal.specs.Answers.{done, numbered, summed, answer_in}
-use Rattle.journal.specs.Deeds.{deed}
-use Rattle.journal.specs.Law.{Each, Stands, Told, no_records}
-use Rattle.journal.specs.Steps.{Outcome, outcome, does, numbers, fills, asks}
-use Rattle.journal.specs.Words.{accepted, all_of, closed_day, closed_in, lines_of, paid_of, paid_together, kinds_in, open_in, last_day, last_grid, last_reading, last_amount, grid_in, members_in, owed_by, cash_in}
+use Rattle.journal.specs.Law.{Stands, no_records}
+use Rattle.journal.specs.Steps.{outcome}
+use Rattle.journal.specs.Words.{all_of, closed_day, closed_in, lines_of, paid_of, kinds_in, open_in, last_day, last_grid, last_reading, last_amount, grid_in, members_in, owed_by, cash_in}
 use Rattle.journal.specs.declared.answer.Answer.{Answer}
 use Rattle.journal.specs.declared.answer.Answer.TheVariants.{Done, Enrolled, Sum, Refused}
 use Rattle.journal.specs.declared.call.Call.{Call}

@@ -1,7 +1,7 @@
 -- A close that is lent seventeen records or fewer. Assumes nothing.
-use Rattle.std.proofs.Common.{◌≡◌, ℕ, ◌≤◌, min, Bool, true, false, cond, not, ltb, List, [], ◌++◌, length, take, drop, ℤ, is_ok, Ok, Err, Result, sym, refl, ap, ◌∙◌, subst, inl, inr, arith}
+use Rattle.std.proofs.Common.{◌≡◌, ℕ, ◌≤◌, min, Bool, true, false, cond, ltb, List, [], ◌++◌, length, take, drop, ℤ, is_ok, sym, refl, ap, ◌∙◌, inl, inr, arith}
 use Rattle.std.proofs.lemmas.List.{take_all, drop_all, append-nil, take-append-drop}
-use Rattle.std.proofs.lemmas.Bool.{cases_lt, lt-ltb, le-ltb, ltb-false, false≢true}
+use Rattle.std.proofs.lemmas.Bool.{cases_lt, lt-ltb, le-ltb, false≢true}
 use Rattle.facts.specs.Facts.{Facts}
 use Rattle.sharing.specs.Shares.{too_much}
 use Rattle.day.specs.Dues.{charges_of}
@@ -11,7 +11,6 @@ use Rattle.pool.specs.Calls.{closing_of}
 use Rattle.pool.specs.Rules.{close_rule}
 use Rattle.pool.specs.Tables.{all_entered, members_of}
 use Rattle.pool.specs.declared.book.Book.{Book}
-use Rattle.pool.specs.declared.refusal.Refusal.{Refusal}
 
 -- room for more than seventeen is as good as for seventeen
 held : (room : ℕ) → ltb (min room record_count) record_count ≡ ltb room record_count

@@ -5,7 +5,6 @@ use Rattle.facts.specs.Facts.{Facts}
 use Rattle.quantities.specs.Money.{money}
 use Rattle.sharing.specs.Shares.{too_much}
 use Rattle.day.specs.Dues.{charges_of}
-use Rattle.day.specs.declared.member.MemberKind.{MemberKind}
 use Rattle.pool.specs.Rules.{enrol_rule, open_rule, grid_rule, reading_rule, amount_rule, close_rule, drop_rule, pay_in_rule, pay_out_rule, account_rule}
 use Rattle.pool.specs.Tables.{all_entered}
 use Rattle.pool.specs.declared.refusal.Refusal.{Refusal}

@@ -1,5 +1,5 @@
 -- The law over runs, in words of the journal. Assumes nothing.
-use Rattle.std.specs.Prelude.{◌≡◌, ℕ, ◌<◌, ◌≤◌, min, Bool, true, false, cond, List, [], ◌∷◌, ◌++◌, map, length, take, drop, replicate, ℤ, pos, ◌+ℤ◌, None, slice_index_or}
+use Rattle.std.specs.Prelude.{◌≡◌, ℕ, ◌<◌, ◌≤◌, min, true, cond, List, [], ◌∷◌, ◌++◌, map, length, take, drop, replicate, ℤ, pos, ◌+ℤ◌, None, slice_index_or}
 use Rattle.facts.specs.Facts.{Facts}
 use Rattle.member_day.specs.Entries.{blocks}
 use Rattle.day.specs.Laws.{Settled}

@@ -1,8 +1,8 @@
 -- What the parts of a rule say of a call that is accepted. Assumes nothing.
-use Rattle.std.proofs.Common.{◌≡◌, ℕ, ◌<◌, ◌≤◌, Bool, true, false, cond, not, ℤ, pos, negsuc, ◌+ℤ◌, neg_ℤ, nat_abs, ◌≤ℤ◌, Some, Ok, Err, Result, sym, refl, ap, ◌∙◌, subst, arith}
+use Rattle.std.proofs.Common.{◌≡◌, ℕ, ◌≤◌, Bool, true, false, cond, not, ℤ, pos, negsuc, ◌+ℤ◌, neg_ℤ, nat_abs, ◌≤ℤ◌, Some, Ok, Err, Result, sym, refl, ap, subst, arith}
 use lib.Signed.{lt_z}
 use Rattle.std.proofs.lemmas.Int.{ints}
-use Rattle.std.proofs.lemmas.Bool.{and_parts, false≢true, not_from_true, not_from_false}
+use Rattle.std.proofs.lemmas.Bool.{and_parts, false≢true}
 use Rattle.quantities.specs.Limits.{within, most_money, most_kwh}
 use Rattle.facts.specs.Kinds.{least_available, most_available}
 use Rattle.facts.specs.Refusals.{reading_fits}

@@ -1,16 +1,14 @@
 -- A sound book's day is settled exactly where all its entries are there. Assumes nothing.
-use Rattle.std.proofs.Common.{◌≡◌, ℕ, zero, suc, ◌-◌, ◌<◌, ◌≤◌, Bool, true, false, cond, not, ◌&&◌, ◌||◌, ltb, List, [], ◌∷◌, map, length, get_or, take, ℤ, pos, is_some, Some, None, Ok, Err, Option, Result, sym, refl, ap, ◌∙◌, subst, inl, inr, arith}
+use Rattle.std.proofs.Common.{◌≡◌, ℕ, suc, ◌-◌, ◌<◌, Bool, true, false, cond, ◌&&◌, ◌||◌, ltb, List, [], ◌∷◌, length, get_or, take, ℤ, is_some, Some, None, Ok, Err, Option, Result, sym, refl, ap, ◌∙◌, subst, inl, inr, arith}
 use borrow.Rule.Slice.PartMut.{mid_of}
 use native.Mathlib.Nat.{sub-zero}
 use Rattle.std.specs.Option.{option_map, option_zip}
-use Rattle.std.specs.Bool.{then_some}
 use Rattle.std.specs.List.{list_all}
 use Rattle.std.proofs.lemmas.List.{get_or-take, get_or_past, length-take-le}
-use Rattle.std.proofs.lemmas.Bool.{cases_lt, le-ltb, and_from}
+use Rattle.std.proofs.lemmas.Bool.{cases_lt, le-ltb}
 use Rattle.facts.specs.Facts.{Facts}
-use Rattle.facts.specs.Refusals.{reading_fits, grid_fits}
 use Rattle.facts.specs.declared.kinds.Kind.{Kind}
-use Rattle.member_day.specs.Entries.{blocks, facts_at, day_facts}
+use Rattle.member_day.specs.Entries.{facts_at, day_facts}
 use Rattle.member_day.specs.declared.entries.GridEntry.{GridEntry}
 use Rattle.member_day.specs.declared.entries.ReadingEntry.{ReadingEntry}
 use Rattle.sharing.specs.Shares.{too_much}

@@ -1,6 +1,5 @@
 -- Every accepted call leaves a sound book. Assumes nothing.
-use Rattle.std.proofs.Common.{◌≡◌, ℕ, ◌+◌, ◌-◌, ◌*◌, ◌<◌, ◌≤◌, Bool, true, false, cond, List, map, length, get_or, set, replicate, ℤ, pos, ◌+ℤ◌, neg_ℤ, nat_abs, ◌≤ℤ◌, is_some, Some, None, Option, sym, refl, ap, ◌∙◌, subst, inl, inr, arith}
-use lib.Signed.{lt_z}
+use Rattle.std.proofs.Common.{◌≡◌, ℕ, ◌-◌, ◌*◌, ◌<◌, ◌≤◌, true, false, cond, List, map, length, get_or, ℤ, pos, ◌+ℤ◌, nat_abs, ◌≤ℤ◌, is_some, Some, None, Option, sym, refl, ap, ◌∙◌, subst, inl, inr, arith}
 use Rattle.std.proofs.lemmas.List.{length-set, length-map, get_or-replicate, get_or_past}
 use Rattle.std.proofs.lemmas.Bool.{cases_lt, true≢false}
 use Rattle.std.proofs.lemmas.Int.{ints}
@@ -13,7 +12,7 @@ use Rattle.member_day.specs.declared.entries.ReadingEntry.{ReadingEntry}
 use Rattle.day.specs.declared.member.Member.{Member}
 use Rattle.day.specs.declared.record.Record.{Record}
 use Rattle.day.specs.declared.member.MemberKind.{MemberKind}
-use Rattle.day.specs.declared.member.MemberKind.TheVariants.{Metered, Regional}
+use Rattle.day.specs.declared.member.MemberKind.TheVariants.{Regional}
 use Rattle.pool.specs.Calls.{opened_on, with_money, with_one_more, with_row, with_member, ended, paid, closed_with}
 use Rattle.day.specs.Members.{most_members}
 use Rattle.day.specs.Records.{record_count}
@@ -21,7 +20,7 @@ use Rattle.pool.specs.Rules.{most_day}
 use Rattle.pool.specs.Sound.{Sound, Postable, days_past, grid_fine, reading_fine}
 use Rattle.pool.specs.Standing.{owing, sum_at, total, posted, added, line_at, sum_of_lines}
 use Rattle.day.specs.Members.{member_at, nobody}
-use Rattle.pool.specs.Tables.{fresh, vacant, no_entries, grid_entry, of_kind, cleared, changed}
+use Rattle.pool.specs.Tables.{fresh, vacant, no_entries, of_kind, cleared}
 use Rattle.pool.specs.declared.accounts.Account.{Account}
 use Rattle.pool.specs.declared.book.Book.{Book}
 use Rattle.pool.proofs.Members.{changed_at, set_at, cleared_at, none_fine}

@@ -1,5 +1,5 @@
 -- What each call on a pool answers, and what the book is after it. Assumes nothing.
-use Rattle.std.specs.Prelude.{ℕ, ◌+◌, Bool, true, false, cond, List, map, length, ℤ, pos, ◌+ℤ◌, ◌-ℤ◌, neg_ℤ, Some, None, Option, Result, slice_set, unsigned_abs}
+use Rattle.std.specs.Prelude.{ℕ, ◌+◌, true, false, List, map, ℤ, ◌+ℤ◌, neg_ℤ, Some, Result, slice_set, unsigned_abs}
 use Rattle.std.specs.Option.{unwrap_or}
 use Rattle.quantities.specs.declared.paise.Paise.{Paise}
 use Rattle.quantities.specs.Money.{money}

@@ -1,6 +1,6 @@
 -- When a call is refused, and with what: the first sentence that fits. Each rule goes by facts alone, so that it holds of
 -- a pool and of a journal of calls alike. Assumes nothing.
-use Rattle.std.specs.Prelude.{ℕ, Bool, true, false, cond, not, ◌&&◌, ◌||◌, ℤ, pos, negsuc, neg_ℤ, is_some, Ok, Err, Result, ◌==◌, int_lt, nat_le, nat_lt, unsigned_abs}
+use Rattle.std.specs.Prelude.{ℕ, Bool, false, cond, not, ◌&&◌, ◌||◌, ℤ, pos, negsuc, neg_ℤ, is_some, Ok, Err, Result, ◌==◌, int_lt, nat_le, nat_lt, unsigned_abs}
 use Rattle.quantities.specs.Limits.{within, within_either, most_money}
 use Rattle.quantities.specs.declared.paise.Paise.{Paise}
 use Rattle.facts.specs.Refusals.{reading_fits, grid_fits}

@@ -1,5 +1,5 @@
 -- What the book of every pool keeps. Assumes nothing.
-use Rattle.std.specs.Prelude.{◌≡◌, ℕ, ◌-◌, ◌*◌, ◌<◌, ◌≤◌, Bool, true, false, cond, List, length, ℤ, pos, ◌+ℤ◌, ◌≤ℤ◌, is_some, Some, None, Option, slice_index_or, unsigned_abs}
+use Rattle.std.specs.Prelude.{◌≡◌, ℕ, ◌-◌, ◌*◌, ◌<◌, ◌≤◌, Bool, true, false, cond, List, length, pos, ◌+ℤ◌, ◌≤ℤ◌, is_some, Some, None, Option, slice_index_or, unsigned_abs}
 use Rattle.quantities.specs.Limits.{most_money}
 use Rattle.facts.specs.Refusals.{reading_fits, grid_fits}
 use Rattle.member_day.specs.Entries.{blocks}

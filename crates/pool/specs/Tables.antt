@@ -1,5 +1,5 @@
 -- The tables of a pool, and what one entry leaves of them. Assumes nothing.
-use Rattle.std.specs.Prelude.{ℕ, ◌+◌, Bool, true, false, ◌&&◌, List, [], ◌∷◌, map, take, replicate, ℤ, pos, is_some, Some, None, Option, slice_set, unsigned_abs}
+use Rattle.std.specs.Prelude.{ℕ, Bool, false, ◌&&◌, List, map, take, replicate, ℤ, pos, is_some, Some, None, Option, slice_set, unsigned_abs}
 use Rattle.std.specs.List.{list_all}
 use Rattle.quantities.specs.declared.paise.Paise.{Paise}
 use Rattle.quantities.specs.Money.{money}

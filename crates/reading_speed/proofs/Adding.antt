@@ -1,12 +1,11 @@
 -- The rows that are added up, one after another.
-use Rattle.std.proofs.Common.{◌≡◌, ℕ, ◌+◌, ◌-◌, ◌%◌, ◌^◌, ◌<◌, ◌≤◌, List, [], ◌∷◌, length, get_or, Ok, Err, Result, sym, refl, ap, ◌∙◌, arith}
+use Rattle.std.proofs.Common.{◌≡◌, ℕ, ◌+◌, ◌-◌, ◌%◌, ◌^◌, ◌≤◌, List, ◌∷◌, length, Ok, Err, Result, sym, refl, ap, ◌∙◌, arith}
 use Rattle.reading_speed.specs.Totals.{row_sum, rows_sum, total_of}
 use Rattle.reading_speed.specs.declared.total.Total.{Total}
 use Rattle.sheet_kinds.specs.Tables.{readings}
-use Rattle.sheet_kinds.specs.declared.fault.SheetFault.{SheetFault}
 use Rattle.sheet_kinds.specs.declared.readings.ReadingNumbers.{ReadingNumbers}
 use Rattle.sheets.proofs.Walks.{rows_left, Handed}
-use Rattle.sheets.specs.Rows.{map_ok, by_place}
+use Rattle.sheets.specs.Rows.{map_ok}
 use Rattle.sheets.specs.Sheets.{sheet_rows}
 use Rattle.sheets.specs.States.{Standing, line_less}
 

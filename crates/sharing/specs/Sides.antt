@@ -1,8 +1,7 @@
 -- The two sides of a day's charges, and whether both come to the average. Assumes nothing.
-use Rattle.std.specs.Prelude.{◌≡◌, ℕ, ◌+◌, ◌-◌, ◌/◌, ◌≤◌, Bool, false, cond, ◌&&◌, ◌||◌, List, map, ℤ, pos, sum_by, sum, ◌==◌, nat_le, nat_lt}
+use Rattle.std.specs.Prelude.{◌≡◌, ℕ, ◌+◌, ◌-◌, ◌/◌, ◌≤◌, Bool, false, cond, ◌&&◌, ◌||◌, List, map, pos, sum_by, sum, ◌==◌, nat_le, nat_lt}
 use Rattle.quantities.specs.Limits.{most_money}
 use Rattle.quantities.specs.Money.{magnitude, money}
-use Rattle.quantities.specs.declared.paise.Paise.{Paise}
 use Rattle.quantities.specs.declared.side.Side.{Side}
 use Rattle.quantities.specs.declared.side.Side.TheVariants.{Payable, Receivable}
 use Rattle.sharing.specs.declared.charge.Charge.{Charge}

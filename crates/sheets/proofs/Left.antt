@@ -1,12 +1,12 @@
 -- A sheet that was tested whole, used row by row: the rows that are left.
-use Rattle.std.proofs.Common.{◌≡◌, ℕ, ◌+◌, List, [], ◌∷◌, Some, None, Ok, Err, Result, sym, refl, ap, ◌∙◌, arith}
+use Rattle.std.proofs.Common.{◌≡◌, ℕ, ◌+◌, List, [], ◌∷◌, Some, None, Ok, Err, Result, sym, refl, ap, ◌∙◌}
 use Rattle.cells.specs.Cells.{cells}
 use Rattle.cells.specs.Left.{first_cells, others}
 use Rattle.sheet_kinds.specs.Tables.{Table}
 use Rattle.sheet_kinds.specs.declared.fault.RowFault.{RowFault}
 use Rattle.sheet_kinds.specs.declared.fault.SheetFault.{SheetFault}
 use Rattle.sheets.proofs.Small.{row_small}
-use Rattle.sheets.proofs.Walks.{ok_err, ok_same, rows_left, Handed, none_left, faulted, handed}
+use Rattle.sheets.proofs.Walks.{ok_err, ok_same, rows_left, none_left, faulted, handed}
 use Rattle.sheets.specs.Rows.{map_ok, by_place}
 use Rattle.sheets.specs.Sheets.{and_then, names_columns, from_lines, rows_from, sheet_lines, sheet_rows}
 use Rattle.sheets.specs.Small.{Small}

@@ -1,7 +1,7 @@
 -- The columns of a line of names, one cell after another.
-use Rattle.std.proofs.Common.{◌≡◌, ℕ, suc, ◌+◌, ◌-◌, ◌<◌, ◌≤◌, Bool, true, false, cond, ◌&&◌, ◌||◌, eqb, ◌≢◌, List, [], ◌∷◌, ◌++◌, map, length, get_or, take, drop, set, Some, None, Option, sym, refl, ap, ◌∙◌, subst, ⊎_elim, append_assoc, append-nil, arith, length-set, below_more}
+use Rattle.std.proofs.Common.{◌≡◌, ℕ, ◌+◌, ◌<◌, ◌≤◌, true, false, ◌||◌, eqb, ◌≢◌, List, [], ◌∷◌, ◌++◌, map, length, get_or, take, set, Some, None, sym, refl, ap, ◌∙◌, append_assoc, append-nil, arith, length-set, below_more}
 use Rattle.sheets.specs.Columns.{has, fresh, index_of, columns_of}
-use Rattle.std.proofs.lemmas.List.{get_or-set_same, get_or-set_other, take_more_set, nil_from_length, length-map}
+use Rattle.std.proofs.lemmas.List.{get_or-set_same, get_or-set_other, take_more_set}
 use Rattle.std.proofs.lemmas.Bool.{cond-true, cond-false, and_from, and_left, and_right, ne_eqb, eq-eqb}
 
 -- i cells of all are done, and ps are left

@@ -1,12 +1,12 @@
 -- The next line of a sheet: none where no cell is left, else its row or its fault.
-use Rattle.std.proofs.Common.{◌≡◌, ℕ, suc, ◌+◌, ◌<◌, ◌≤◌, Bool, true, false, cond, eqb, List, [], ◌∷◌, length, Some, None, Ok, Err, Option, Result, sym, refl, ap, ◌∙◌, subst, suc-le-suc, zero-le, arith}
+use Rattle.std.proofs.Common.{◌≡◌, ℕ, ◌+◌, ◌<◌, true, false, cond, eqb, List, [], ◌∷◌, length, Some, None, Ok, Err, Result, sym, refl, ap, ◌∙◌, suc-le-suc, zero-le, arith}
 use Rattle.cells.proofs.Took.{texts_placed}
-use Rattle.cells.specs.Cells.{cells, onto, comma, placed, texts, CellShown}
+use Rattle.cells.specs.Cells.{cells, onto, comma, placed, texts}
 use Rattle.cells.specs.Left.{first_cells, others, is_some_left}
 use Rattle.sheet_kinds.specs.Tables.{Table}
 use Rattle.sheet_kinds.specs.declared.fault.RowFault.{RowFault}
 use Rattle.sheets.specs.Rows.{map_ok, read_row, by_place}
-use Rattle.sheets.specs.States.{Standing, next_row, line_less, after_row}
+use Rattle.sheets.specs.States.{next_row, line_less}
 use Rattle.std.proofs.lemmas.Bool.{true≢false}
 use Rattle.std.specs.Result.{result_ok}
 

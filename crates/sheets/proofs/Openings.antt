@@ -1,5 +1,5 @@
 -- Sheets without bytes, and how many lines bytes have.
-use Rattle.std.proofs.Common.{◌≡◌, ℕ, suc, ◌≤◌, Bool, true, false, cond, eqb, List, [], ◌∷◌, length, Ok, Err, refl, suc-le-suc, zero-le, arith}
+use Rattle.std.proofs.Common.{◌≡◌, ℕ, suc, ◌≤◌, true, false, cond, eqb, List, [], ◌∷◌, length, Err, refl, suc-le-suc, zero-le, arith}
 use Rattle.cells.specs.Cells.{lines, onto, line_feed}
 use Rattle.cells.specs.Left.{others}
 use Rattle.sheet_kinds.specs.declared.fault.SheetFault.TheVariants.{Unended}

@@ -1,14 +1,13 @@
 -- The values of a row, one cell after another.
-use Rattle.std.proofs.Common.{◌≡◌, ℕ, zero, suc, ◌+◌, ◌-◌, ◌<◌, ◌≤◌, Bool, true, false, cond, eqb, ◌≢◌, List, [], ◌∷◌, length, get_or, take, drop, set, replicate, Some, None, Ok, Err, Result, sym, refl, ap, ◌∙◌, subst, ⊎_elim, arith, length-set}
+use Rattle.std.proofs.Common.{◌≡◌, ℕ, zero, suc, ◌+◌, ◌<◌, ◌≤◌, eqb, ◌≢◌, List, [], ◌∷◌, length, get_or, take, drop, set, replicate, Some, None, Ok, Err, Result, sym, refl, ap, ◌∙◌, subst, ⊎_elim, arith, length-set}
 use Rattle.cells.specs.Numbers.{meaning}
 use Rattle.sheet_kinds.specs.Tables.{Table}
 use Rattle.sheet_kinds.specs.declared.fault.CellFault.{CellFault}
 use Rattle.sheet_kinds.specs.declared.fault.RowFault.TheVariants.{Count, Cell}
-use Rattle.sheet_kinds.specs.declared.fault.RowFault.{RowFault}
 use Rattle.sheets.specs.Rows.{value_of, read_cells, read_row, and_cell, map_ok, by_place}
-use Rattle.sheets.specs.Values.{put_value, first_fault}
+use Rattle.sheets.specs.Values.{put_value}
 use Rattle.sheets.specs.declared.values.RowValues.{RowValues}
-use Rattle.std.proofs.lemmas.List.{drop_more, drop_all, take-replicate, get_or-take, get_or_past, get_or-set_other, get_or-replicate, length-take-le}
+use Rattle.std.proofs.lemmas.List.{drop_more, drop_all, take-replicate, get_or-take, get_or_past, get_or-set_other, length-take-le}
 use Rattle.std.proofs.lemmas.Bool.{cond-true, cond-false, cond_both, cases_lt, eq-eqb, ne_eqb}
 use Rattle.std.specs.Result.{result_ok}
 

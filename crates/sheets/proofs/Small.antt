@@ -1,9 +1,9 @@
 -- Every value of a row has ten digits at most.
-use Rattle.std.proofs.Common.{◌≡◌, ℕ, zero, suc, ◌+◌, ◌≤◌, Bool, eqb, List, [], ◌∷◌, length, get_or, set, replicate, IfOk, Some, None, Ok, Err, Option, Result, sym, refl, ap, subst, arith}
+use Rattle.std.proofs.Common.{◌≡◌, ℕ, zero, suc, ◌+◌, ◌≤◌, Bool, eqb, List, [], ◌∷◌, length, get_or, set, replicate, IfOk, Some, None, Ok, Err, Option, Result, sym, refl, subst, arith}
 use Rattle.cells.proofs.Small.{number_small}
 use Rattle.cells.specs.Cells.{cells}
 use Rattle.cells.specs.Left.{first_cells, others}
-use Rattle.cells.specs.Numbers.{meaning, number_or_other, number_of, number, empty, other, most_number}
+use Rattle.cells.specs.Numbers.{meaning, number_or_other, number_of, empty, most_number}
 use Rattle.sheet_kinds.specs.Tables.{Table}
 use Rattle.sheet_kinds.specs.declared.fault.CellFault.{CellFault}
 use Rattle.sheet_kinds.specs.declared.fault.RowFault.{RowFault}

@@ -1,7 +1,6 @@
 -- What the next row says of the rows that are left.
-use Rattle.std.proofs.Common.{◌≡◌, ℕ, ◌+◌, ◌-◌, ◌<◌, ◌≤◌, List, [], ◌∷◌, length, Some, None, Ok, Err, Option, Result, sym, refl, ap, ◌∙◌, arith}
+use Rattle.std.proofs.Common.{◌≡◌, ℕ, ◌+◌, ◌<◌, List, [], ◌∷◌, length, Some, None, Ok, Err, Option, Result, sym, refl, ap, arith}
 use Rattle.cells.specs.Cells.{cells}
-use Rattle.cells.specs.Left.{others}
 use Rattle.sheet_kinds.specs.Tables.{Table}
 use Rattle.sheet_kinds.specs.declared.fault.RowFault.{RowFault}
 use Rattle.sheet_kinds.specs.declared.fault.SheetFault.TheVariants.{Row}

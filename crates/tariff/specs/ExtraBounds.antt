@@ -1,6 +1,6 @@
 -- What the extra adds: it stays within the limit, and is a fifth in the excess's share. Assumes nothing.
 use Rattle.std.specs.Prelude.{◌≡◌, ℕ, ◌*◌, ◌/◌, Bool, true, false, cond, ℤ, pos, ◌+ℤ◌}
-use Rattle.std.proofs.Common.{ap, sym, ◌∙◌, mul_left_comm, mul_assoc, arith, lit<}
+use Rattle.std.proofs.Common.{ap, ◌∙◌, mul_left_comm, mul_assoc, arith, lit<}
 use Rattle.std.proofs.Math.Nat.{mul-div-mul_left}
 use Rattle.std.proofs.lemmas.Int.{ints, clamps}
 use Rattle.std.specs.Int.{int_min}

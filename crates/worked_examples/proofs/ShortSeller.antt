@@ -1,5 +1,5 @@
 -- The seller of 20,000 scheduled and 17,000 metered at 49.80 Hz. Assumes nothing.
-use Rattle.std.proofs.Common.{◌≡◌, ℤ, pos, Ok, sym, refl, ap, ◌∙◌}
+use Rattle.std.proofs.Common.{◌≡◌, ℤ, pos, Ok, refl, ap, ◌∙◌}
 use Rattle.facts.specs.Facts.{Facts}
 use Rattle.facts.specs.Refusals.{facts_from, facts_of}
 use Rattle.facts.specs.declared.kinds.Kind.TheVariants.{Seller}

@@ -1,7 +1,7 @@
 -- Where the cell ends.
 use Rattle.cells.proofs.Fronts.{front_here, front_on, front_past}
 use Rattle.cells.proofs.scan.cell_end.Goals as goal
-use Rattle.std.proofs.Common.{length, sym, ap, ◌∙◌, arith}
+use Rattle.std.proofs.Common.{length, sym, ap, arith}
 
 pub returns-then-is_stop : goal.returns-then-is_stop
 returns-then-is_stop c =

@@ -1,5 +1,5 @@
 -- One digit more.
-use Rattle.std.proofs.Common.{◌≡◌, ℕ, ◌+◌, ◌-◌, ◌*◌, ◌^◌, ◌<◌, true, leb, length, get_or, drop, sym, ap, ◌∙◌, pow-suc, add-one, arith}
+use Rattle.std.proofs.Common.{◌≡◌, ◌+◌, ◌-◌, ◌*◌, ◌^◌, ◌<◌, true, leb, length, get_or, drop, sym, ap, ◌∙◌, pow-suc, add-one, arith}
 use Rattle.cells.proofs.Fronts.{front_on, digit_goes_on, digits_more}
 use Rattle.cells.proofs.scan.digit_run.Goals as goal
 use Rattle.cells.specs.Numbers.{digits_after, is_digit}

@@ -1,5 +1,5 @@
 -- A close is lent seventeen records, or fewer where the call lends fewer.
-use Rattle.std.proofs.Common.{◌≡◌, ◌-◌, min, cond, ◌++◌, length, take, drop, is_ok, sym, ap, ◌∙◌, arith, rules}
+use Rattle.std.proofs.Common.{◌≡◌, ◌-◌, min, cond, ◌++◌, length, take, drop, is_ok, ap, ◌∙◌, arith}
 use Rattle.std.proofs.lemmas.List.{length-take-le}
 use Rattle.day.specs.Records.{record_count}
 use Rattle.pool.specs.Calls.{closed_with, closing_of, records_of}

@@ -1,5 +1,5 @@
 -- One call more is noted, and the pool stands after it.
-use Rattle.std.proofs.Common.{◌≡◌, ◌<◌, ◌∷◌, ◌++◌, reverse, length, get_or, take, drop, pos, sym, refl, ap, ◌∙◌, subst, arith}
+use Rattle.std.proofs.Common.{◌≡◌, ◌<◌, ◌++◌, reverse, length, take, drop, pos, sym, refl, ◌∙◌, subst, arith}
 use Rattle.journal.specs.Law.{Stands}
 use Rattle.journal.specs.declared.call.Call.TheVariants.{Enrol}
 use Rattle.journal.proofs.Turning.{calls_of, turn_calls, turn_journal, turn_beyond, turn_stands}

@@ -1,5 +1,5 @@
 -- The calls so far are noted, the places beyond are as they were, and the pool stands after what was noted.
-use Rattle.std.proofs.Common.{◌≡◌, List, ◌++◌, map, reverse, take, drop}
+use Rattle.std.proofs.Common.{◌≡◌, List, ◌++◌, reverse, take, drop}
 use Rattle.journal.specs.Law.{Stands}
 use Rattle.journal.specs.declared.entry.Entry.{Entry}
 use Rattle.journal.proofs.Turning.{calls_of}

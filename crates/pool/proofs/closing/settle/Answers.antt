@@ -1,5 +1,5 @@
 -- A day of the book is settled or refused as its entries, the records given and its charges say.
-use Rattle.std.proofs.Common.{◌≡◌, ◌++◌, length, take, drop, Err, sym, ap, ◌∙◌}
+use Rattle.std.proofs.Common.{◌++◌, length, drop, Err, ap, ◌∙◌}
 use Rattle.std.proofs.lemmas.Bool.{false≢true}
 use Rattle.day.specs.Records.{closing, day_records, record_count}
 use Rattle.pool.proofs.Settling.{part_is, postable, refused_as, settle_is}

@@ -1,5 +1,5 @@
 -- One member more is cleared, and at the end all are.
-use Rattle.std.proofs.Common.{◌≡◌, ◌<◌, [], ◌++◌, map, length, get_or, take, drop, set, sym, refl, ap, ◌∙◌, arith, rules}
+use Rattle.std.proofs.Common.{◌≡◌, ◌++◌, map, length, get_or, drop, set, ap, ◌∙◌, arith, rules}
 use Rattle.std.proofs.lemmas.List.Edits.{map_over_more}
 use Rattle.std.proofs.lemmas.List.{take_all, drop_all, append-nil, get_or_default, length-set}
 use Rattle.day.specs.Members.{nobody}

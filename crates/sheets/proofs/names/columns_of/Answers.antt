@@ -1,11 +1,11 @@
 -- The columns of the names.
-use Rattle.std.proofs.Common.{◌≡◌, ℕ, ◌+◌, ◌-◌, ◌<◌, ◌≤◌, Bool, true, false, ◌||◌, eqb, length, take, drop, Some, sym, refl, ap, ◌∙◌, arith}
+use Rattle.std.proofs.Common.{◌≡◌, ◌-◌, ◌<◌, Bool, true, false, ◌||◌, eqb, length, take, drop, Some, sym, ap, ◌∙◌, arith}
 use Rattle.cells.proofs.Took.{Took, took, took_none, none_left, some_left, texts_placed}
 use Rattle.cells.specs.Cells.{texts, lines}
-use Rattle.cells.specs.Left.{cells_left, others, first_cells}
+use Rattle.cells.specs.Left.{cells_left, first_cells}
 use Rattle.cells.specs.Shown.{shown}
 use Rattle.sheets.proofs.Indexes.{index_le}
-use Rattle.sheets.proofs.Listing.{begin, ran_out, too_many, done, refused, step}
+use Rattle.sheets.proofs.Listing.{ran_out, too_many, done, refused, step}
 use Rattle.sheets.proofs.names.columns_of.Given as given
 use Rattle.sheets.proofs.names.columns_of.Goals as goal
 use Rattle.sheets.proofs.names.columns_of.Goals.{After-names-names, After-new-cells, After-index_of-k, After-is_new}

@@ -1,5 +1,5 @@
 -- The place of a name.
-use Rattle.std.proofs.Common.{◌≡◌, ℕ, List, map, length, ap, arith, Bor}
+use Rattle.std.proofs.Common.{ℕ, List, map, ap, arith, Bor}
 use Rattle.std.proofs.lemmas.Slice.Eq.{slice_eq-Decides}
 use Rattle.std.proofs.lemmas.List.{drop_all}
 use Rattle.sheets.specs.Columns.{index_of}

@@ -1,8 +1,8 @@
 -- The row of the cells.
-use Rattle.std.proofs.Common.{◌≡◌, ℕ, ◌+◌, ◌<◌, ◌≤◌, length, get_or, take, Ok, Err, sym, refl, ap, ◌∙◌, subst, arith, rules}
-use Rattle.cells.proofs.Took.{Took, took, took_none, none_left, some_left}
+use Rattle.std.proofs.Common.{◌≡◌, ◌+◌, length, Ok, Err, sym, refl, ap, ◌∙◌, arith, rules}
+use Rattle.cells.proofs.Took.{took, took_none, none_left, some_left}
 use Rattle.cells.specs.Cells.{texts}
-use Rattle.cells.specs.Left.{cells_left, SameSheet}
+use Rattle.cells.specs.Left.{cells_left}
 use Rattle.cells.specs.Shown.{shown}
 use Rattle.sheet_kinds.specs.declared.fault.RowFault.TheVariants.{Count}
 use Rattle.sheets.proofs.Reading.{begin, ran_out, too_many, faulty, done, step}

@@ -1,8 +1,8 @@
 -- The row of the cells.
-use Rattle.std.proofs.Common.{◌≡◌, ℕ, ◌+◌, ◌<◌, ◌≤◌, length, get_or, take, set, Some, Ok, sym, refl, ap, ◌∙◌, subst, arith, rules}
+use Rattle.std.proofs.Common.{◌≡◌, ℕ, ◌+◌, ◌<◌, length, get_or, set, Some, Ok, sym, refl, ap, ◌∙◌, arith, rules}
 use Rattle.cells.proofs.Took.{Took, took, took_none, none_left, some_left}
 use Rattle.cells.specs.Cells.{texts}
-use Rattle.cells.specs.Left.{cells_left, SameSheet}
+use Rattle.cells.specs.Left.{cells_left}
 use Rattle.cells.specs.Numbers.{meaning}
 use Rattle.cells.specs.Shown.{shown}
 use Rattle.sheet_kinds.specs.declared.fault.Spot.{Spot}

@@ -4,7 +4,7 @@ use Rattle.cells.proofs.line.LineCells.new.Goals as goal
 use Rattle.cells.specs.Cells.{placed, lines}
 use Rattle.cells.specs.Left.{first_cells, others}
 use Rattle.std.proofs.lemmas.List.{drop_all}
-use Rattle.std.proofs.Common.{◌≡◌, sym, refl, ap, ◌∙◌, arith}
+use Rattle.std.proofs.Common.{sym, refl, ap, ◌∙◌, arith}
 use Rattle.std.proofs.lemmas.Bool.{ltb-true, ltb-false}
 
 pub returns-then-is_inside : goal.returns-then-is_inside

@@ -1,5 +1,5 @@
 -- The cell that is taken, and what is left.
-use Rattle.std.proofs.Common.{◌≡◌, ℕ, ◌+◌, ◌≤◌, ltb, length, drop, Some, sym, refl, ap, ◌∙◌, arith, length-drop}
+use Rattle.std.proofs.Common.{◌≡◌, ◌+◌, ◌≤◌, ltb, length, drop, Some, sym, refl, ap, ◌∙◌, arith, length-drop}
 use Rattle.cells.proofs.Fronts.{front_le}
 use Rattle.cells.proofs.Taking.{texts_next, after_next, places_next}
 use Rattle.cells.proofs.line.LineCells.next_cell.Goals as goal

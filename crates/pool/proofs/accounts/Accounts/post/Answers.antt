@@ -1,5 +1,5 @@
 -- One line more stands on its account.
-use Rattle.std.proofs.Common.{◌≡◌, ◌+◌, ◌<◌, length, get_or, take, ◌+ℤ◌, sym, refl, ap, ◌∙◌, subst, arith, w64, SFits, rules}
+use Rattle.std.proofs.Common.{◌≡◌, ◌<◌, ◌+ℤ◌, sym, ap, ◌∙◌, subst, arith, w64, SFits}
 use Rattle.std.proofs.lemmas.List.{take_all}
 use Rattle.day.specs.Records.{record_count}
 use Rattle.pool.specs.Standing.{sum_at, added, posted, line_at}

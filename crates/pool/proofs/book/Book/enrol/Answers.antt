@@ -1,9 +1,8 @@
 -- An enrolled member is counted, and its kind is that of the number.
-use Rattle.std.proofs.Common.{◌≡◌, unwrap_or, sym, ap, ◌∙◌, subst, arith, w64, to_z, of_z, rules}
+use Rattle.std.proofs.Common.{◌≡◌, unwrap_or, ap, ◌∙◌, w64, to_z, of_z, rules}
 use Rattle.std.proofs.lemmas.Int.{to_z-of_z}
 use Rattle.day.specs.declared.member.MemberKind.TheVariants.{Regional}
 use Rattle.pool.specs.Calls.{kind_numbered, with_one_more}
-use Rattle.pool.specs.Sound.{Sound}
 use Rattle.pool.proofs.Sounds.{enrolled_sound}
 use Rattle.pool.proofs.book.Book.enrol.Goals as goal
 

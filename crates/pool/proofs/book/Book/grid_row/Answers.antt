@@ -1,5 +1,5 @@
 -- A grid row within its limits leaves a sound book.
-use Rattle.std.proofs.Common.{◌≡◌, ◌<◌, true, Some, sym, ap, subst, arith, rules}
+use Rattle.std.proofs.Common.{◌≡◌, ◌<◌, true, Some, sym, ap, subst, rules}
 use Rattle.member_day.specs.Entries.{blocks}
 use Rattle.pool.specs.Sound.{Sound, grid_fine}
 use Rattle.pool.proofs.Sounds.{grid_sound}

@@ -1,5 +1,5 @@
 -- The new book is the fresh one, which is sound.
-use Rattle.std.proofs.Common.{◌≡◌, false, List, replicate, pos, Option, sym, ap, ◌∙◌, subst, rules}
+use Rattle.std.proofs.Common.{◌≡◌, false, List, replicate, pos, Option, sym, ap, ◌∙◌, subst}
 use Rattle.quantities.specs.Money.{money}
 use Rattle.member_day.specs.declared.entries.GridEntry.{GridEntry}
 use Rattle.day.specs.declared.member.Member.{Member}

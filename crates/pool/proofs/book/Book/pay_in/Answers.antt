@@ -1,10 +1,9 @@
 -- A payment in that the account owes leaves a sound book.
-use Rattle.std.proofs.Common.{◌≡◌, ℕ, ◌<◌, ◌≤◌, true, false, pos, ◌+ℤ◌, neg_ℤ, nat_abs, ◌≤ℤ◌, sym, ap, ◌∙◌, subst, arith, rules}
+use Rattle.std.proofs.Common.{◌≡◌, ◌<◌, true, false, neg_ℤ, nat_abs, sym, ap, ◌∙◌, subst, arith, rules}
 use lib.Signed.{lt_z}
 use Rattle.std.proofs.lemmas.Int.{ints}
 use Rattle.quantities.specs.Limits.{within, most_money}
 use Rattle.day.specs.Records.{record_count}
-use Rattle.pool.specs.Calls.{paid_in}
 use Rattle.pool.specs.Rules.{has_account}
 use Rattle.pool.specs.Sound.{Sound}
 use Rattle.pool.specs.Standing.{sum_at}

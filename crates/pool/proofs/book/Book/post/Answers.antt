@@ -1,9 +1,7 @@
 -- Lines that together are nothing leave a sound book.
-use Rattle.std.proofs.Common.{◌≡◌, false, sym, ap, subst, arith, rules}
-use Rattle.std.proofs.lemmas.Int.{ints}
-use Rattle.pool.specs.Calls.{closed_with, with_money, ended}
+use Rattle.std.proofs.Common.{sym, ap, subst, rules}
+use Rattle.pool.specs.Calls.{with_money, ended}
 use Rattle.pool.specs.Sound.{Sound}
-use Rattle.pool.specs.Standing.{posted}
 use Rattle.pool.proofs.Sounds.{account_most, closed_sound}
 use Rattle.pool.proofs.book.Book.post.Goals as goal
 

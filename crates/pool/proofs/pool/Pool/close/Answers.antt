@@ -1,5 +1,5 @@
 -- A settled day's lines stand on the accounts.
-use Rattle.std.proofs.Common.{◌≡◌, not, length, take, drop, sym, ap, ◌∙◌, rules}
+use Rattle.std.proofs.Common.{not, length, take, drop, sym, ap, ◌∙◌, rules}
 use Rattle.std.proofs.lemmas.List.{take_at}
 use Rattle.day.specs.Records.{record_count}
 use Rattle.day.proofs.SettledDay.{length_records}

@@ -1,5 +1,5 @@
 -- The row of the next line.
-use Rattle.std.proofs.Common.{◌≡◌, ℕ, ◌+◌, ◌≤◌, Bool, true, false, length, drop, Some, None, Ok, Err, sym, refl, ap, ◌∙◌, arith}
+use Rattle.std.proofs.Common.{◌≡◌, ◌+◌, Bool, true, false, drop, Ok, Err, sym, refl, ap, ◌∙◌}
 use Rattle.cells.specs.Cells.{lines, placed, texts}
 use Rattle.cells.specs.Left.{others, first_cells, is_some_left, cells_left}
 use Rattle.sheets.proofs.Nexts.{at_end, row_read, moved, some_ok}
@@ -8,7 +8,6 @@ use Rattle.sheets.proofs.states.NamedSheet.next_row.Goals as goal
 use Rattle.sheets.proofs.states.NamedSheet.next_row.Goals.{After-has_cell, After-next_line-self, After-whole_row}
 use Rattle.sheets.specs.Listed.{column_list}
 use Rattle.sheets.specs.Rows.{map_ok, read_row, by_place}
-use Rattle.sheets.specs.States.{Standing}
 use Rattle.std.specs.Result.{result_ok}
 
 -- whether a cell is left says whether a line is
