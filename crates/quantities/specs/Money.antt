@@ -1,12 +1,18 @@
 -- Sums of money and their sides. Assumes nothing.
-use Rattle.std.specs.Prelude.{ℕ, suc, ℤ, pos, negsuc, neg_ℤ}
+use Rattle.std.specs.Prelude.{ℕ, ◌*◌, suc, ℤ, pos, negsuc, neg_ℤ}
+use Rattle.quantities.specs.declared.centi_kwh.CentiKwh.{CentiKwh}
 use Rattle.quantities.specs.declared.paise.Paise.{Paise}
+use Rattle.quantities.specs.declared.rate.Rate.{Rate}
 use Rattle.quantities.specs.declared.side.Side.{Side}
 use Rattle.quantities.specs.declared.side.Side.TheVariants.{Payable, Receivable}
 
 -- a sum of so many paise
 abbrev pub money : ℤ → Paise
 money z = record { paise = z }
+
+-- what an energy costs at a rate before rounding, in thousandths of a paisa
+abbrev pub exactly_on : Rate × CentiKwh → ℕ
+exactly_on part = part.0.tenths * part.1.hundredths
 
 -- a magnitude as a sum: positive where it is payable to the pool, negative where it is receivable
 abbrev pub on_side : Side → ℕ → ℤ

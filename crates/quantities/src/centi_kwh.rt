@@ -6,23 +6,15 @@ use crate::Kwh;
 use crate::limits::MOST_KWH;
 
 /// At most 255 hundredths of the most energy of a block.
-#[derive(Clone, Copy)]
+#[derive(Clone, Copy, PartialEq, Eq, PartialOrd, Ord)]
 pub struct CentiKwh {
     pub(crate) hundredths: u32,
     ghost fits: { hundredths ≤ 255 * most_kwh },
 }
 
-/// So many hundredths of an energy of one block, in hundredths of a kWh.
-pub(crate) fn hundredths_of(kwh: u32, count: u8) -> u32
-    requires { kwh ≤ most_kwh }
-    ensures answer { result ≡ count * kwh }
-    ensures bound { result ≤ 255 * most_kwh }
-{
-    count as u32 * kwh
-}
-
 impl CentiKwh {
     /// What is left after another energy is taken away, 0 where nothing is.
+    // As for Kwh: a trait over both would need a ghost count and a constructor for this one line.
     pub fn less(self, other: CentiKwh) -> CentiKwh
         ensures answer { result.hundredths ≡ self.hundredths - other.hundredths }
     {
@@ -34,11 +26,7 @@ impl CentiKwh {
     pub fn at_most(self, top: CentiKwh) -> CentiKwh
         ensures answer { result.hundredths ≡ min self.hundredths top.hundredths }
     {
-        if top.hundredths < self.hundredths {
-            top
-        } else {
-            self
-        }
+        self.min(top)
     }
 
     /// In whole kWh, rounded down and held at the limit.

@@ -3,13 +3,12 @@ ghost use Rattle.std.specs.Prelude.{◌≡◌, ℕ, ◌+◌, ◌-◌, ◌*◌, �
 ghost use Rattle.quantities.specs.Limits.{most_kwh, within};
 
 use crate::CentiKwh;
-use crate::centi_kwh::hundredths_of;
 use crate::limits::{MOST_KWH, limited};
 use std::fmt;
 
 /// No energy beyond the limit of a block exists. Other crates compare and print an energy, and
 /// cannot read its count: so no count of energy becomes a rate or money but by a named product.
-#[derive(Clone, Copy, PartialEq, PartialOrd)]
+#[derive(Clone, Copy, PartialEq, Eq, PartialOrd, Ord)]
 pub struct Kwh {
     pub(crate) kwh: u32,
     ghost fits: { kwh ≤ most_kwh },
@@ -23,10 +22,8 @@ impl Kwh {
     pub fn new(kwh: i64) -> Option<Kwh>
         ensures answer { MatchOption result (within 0 most_kwh kwh ≡ false) (λ x. (within 0 most_kwh kwh ≡ true) × (kwh ≡ pos x.kwh)) }
     {
-        match limited(kwh, 0, MOST_KWH) {
-            Some(kwh) => Some(Kwh { kwh }),
-            None => None,
-        }
+        let kwh = limited(kwh, 0, MOST_KWH)?;
+        Some(Kwh { kwh })
     }
 
     /// An energy that a rule writes as a number, held at the limit.
@@ -59,7 +56,7 @@ impl Kwh {
     pub fn at_most(self, top: Kwh) -> Kwh
         ensures answer { result.kwh ≡ min self.kwh top.kwh }
     {
-        if top < self { top } else { self }
+        self.min(top)
     }
 
     /// How far apart two energies are.
@@ -76,7 +73,7 @@ impl Kwh {
         ensures answer { result.hundredths ≡ hundredths * self.kwh }
     {
         CentiKwh {
-            hundredths: hundredths_of(self.kwh, hundredths),
+            hundredths: u32::from(hundredths) * self.kwh,
         }
     }
 }

@@ -23,8 +23,7 @@ pub const MOST_MONEY: u64 = 3_000_000_000;
 pub fn limited(number: i64, least: u32, most: u32) -> Option<u32>
     ensures answer { MatchOption result (within least most number ≡ false) (λ n. (within least most number ≡ true) × (number ≡ pos n)) }
 {
-    match u32::try_from(number) {
-        Ok(n) if least <= n && n <= most => Some(n),
-        _ => None,
-    }
+    u32::try_from(number)
+        .ok()
+        .filter(|n| (least..=most).contains(n))
 }

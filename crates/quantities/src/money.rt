@@ -11,22 +11,14 @@ impl Paise {
     pub fn regional(paise: i64) -> Option<Paise>
         ensures answer { MatchOption result (within_either most_money paise ≡ false) (λ p. (within_either most_money paise ≡ true) × (p.paise ≡ paise)) }
     {
-        if paise.unsigned_abs() <= MOST_MONEY {
-            Some(Paise { paise })
-        } else {
-            None
-        }
+        (paise.unsigned_abs() <= MOST_MONEY).then_some(Paise { paise })
     }
 
     /// A payment, of one paisa at least, none where it is outside its limits.
     pub fn payment(paise: i64) -> Option<Paise>
         ensures answer { MatchOption result (within 1 most_money paise ≡ false) (λ p. (within 1 most_money paise ≡ true) × (p.paise ≡ paise)) }
     {
-        if 1 <= paise && paise.unsigned_abs() <= MOST_MONEY {
-            Some(Paise { paise })
-        } else {
-            None
-        }
+        Paise::regional(paise).filter(|sum| 1 <= sum.paise)
     }
 
     /// A magnitude on a side, held at the largest sum.

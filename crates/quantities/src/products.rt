@@ -1,7 +1,7 @@
 //! The named products: the only ways from a rate and an energy, or from shares of an energy, to money.
-ghost use Rattle.std.specs.Prelude.{◌≡◌, ℕ, ◌+◌, ◌*◌, ◌/◌, ◌≤◌, pos, ◌+ℤ◌};
+ghost use Rattle.std.specs.Prelude.{◌≡◌, ℕ, ◌+◌, ◌*◌, ◌/◌, ◌≤◌, pos, ◌+ℤ◌, sum_by};
 ghost use Rattle.quantities.specs.Limits.{most_charge, most_kwh, most_rate};
-ghost use Rattle.quantities.specs.Money.{on_side, payable_in};
+ghost use Rattle.quantities.specs.Money.{exactly_on, on_side, payable_in};
 ghost use Rattle.std.specs.Int.{int_min};
 
 use crate::limits::MOST_CHARGE;
@@ -12,11 +12,7 @@ impl Rate {
     pub fn on(self, energy: Kwh, side: Side) -> Paise
         ensures answer { result.paise ≡ on_side side (self.tenths * energy.kwh / 10) }
     {
-        let magnitude = (self.tenths as u64 * energy.kwh as u64 / 10) as i64;
-        match side {
-            Side::Payable => Paise { paise: magnitude },
-            Side::Receivable => Paise { paise: -magnitude },
-        }
+        Paise::on(side, u64::from(self.tenths) * u64::from(energy.kwh) / 10)
     }
 
     /// What an energy costs at this rate before rounding, in thousandths of a paisa.
@@ -24,22 +20,19 @@ impl Rate {
         ensures answer { result ≡ self.tenths * energy.hundredths }
         ensures bound { result ≤ most_rate * (255 * most_kwh) }
     {
-        self.tenths as u64 * energy.hundredths as u64
+        u64::from(self.tenths) * u64::from(energy.hundredths)
     }
 }
 
 impl Paise {
     /// What three parts of an energy cost together, each at its own rate, payable and rounded down once.
-    pub fn in_bands(
-        first: (Rate, CentiKwh),
-        second: (Rate, CentiKwh),
-        third: (Rate, CentiKwh),
-    ) -> Paise
-        ensures answer { result.paise ≡ pos ((first.0.tenths * first.1.hundredths + second.0.tenths * second.1.hundredths + third.0.tenths * third.1.hundredths) / 1000) }
+    pub fn in_bands(parts: [(Rate, CentiKwh); 3]) -> Paise
+        ensures answer { result.paise ≡ pos (sum_by exactly_on parts / 1000) }
     {
-        let thousandths = first.0.exactly_on(first.1)
-            + second.0.exactly_on(second.1)
-            + third.0.exactly_on(third.1);
+        let thousandths: u64 = parts
+            .iter()
+            .map(|(rate, energy)| rate.exactly_on(*energy))
+            .sum();
         Paise {
             paise: (thousandths / 1_000) as i64,
         }
@@ -53,7 +46,7 @@ impl Paise {
         if MOST_CHARGE <= self.paise {
             return Paise { paise: MOST_CHARGE };
         }
-        let more = share(self.paise.max(0) as u64, part, whole);
+        let more = share(self.magnitude(Side::Payable), part, whole);
         Paise {
             paise: (self.paise + more as i64).min(MOST_CHARGE),
         }
@@ -66,9 +59,8 @@ fn share(sum: u64, part: CentiKwh, whole: CentiKwh) -> u64
     ensures answer { result ≡ sum * part.hundredths / whole.hundredths }
     ensures bound { result ≤ most_charge * (255 * most_kwh) }
 {
-    let product = sum * part.hundredths as u64;
-    match product.checked_div(whole.hundredths as u64) {
-        Some(quotient) => quotient,
-        None => 0,
-    }
+    let product = sum * u64::from(part.hundredths);
+    product
+        .checked_div(u64::from(whole.hundredths))
+        .unwrap_or(0)
 }

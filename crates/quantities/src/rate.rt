@@ -7,7 +7,7 @@ use std::fmt;
 
 /// No rate beyond the limit exists. Other crates print a rate and cannot read its count: so no count
 /// of a rate becomes energy or money but by a named product.
-#[derive(Clone, Copy)]
+#[derive(Clone, Copy, PartialEq, Eq, PartialOrd, Ord)]
 pub struct Rate {
     pub(crate) tenths: u32,
     ghost fits: { tenths ≤ most_rate },
@@ -18,10 +18,8 @@ impl Rate {
     pub fn new(tenths: i64) -> Option<Rate>
         ensures answer { MatchOption result (within 0 most_rate tenths ≡ false) (λ x. (within 0 most_rate tenths ≡ true) × (tenths ≡ pos x.tenths)) }
     {
-        match limited(tenths, 0, MOST_RATE) {
-            Some(tenths) => Some(Rate { tenths }),
-            None => None,
-        }
+        let tenths = limited(tenths, 0, MOST_RATE)?;
+        Some(Rate { tenths })
     }
 
     /// A rate that a rule writes as a number, held at the limit.
@@ -38,13 +36,13 @@ impl Rate {
     pub fn towards(self, higher: Rate, step: u32, steps: u32) -> Rate
         ensures answer { result.tenths ≡ min (self.tenths + (higher.tenths - self.tenths) * step / steps) most_rate }
     {
-        let rise = higher.tenths.saturating_sub(self.tenths) as u64;
-        let risen = match (rise * step as u64).checked_div(steps as u64) {
-            Some(part) => self.tenths as u64 + part,
-            None => self.tenths as u64,
-        };
+        let rise = u64::from(higher.tenths.saturating_sub(self.tenths));
+        let part = (rise * u64::from(step))
+            .checked_div(u64::from(steps))
+            .unwrap_or(0);
+        let risen = u64::from(self.tenths) + part;
         Rate {
-            tenths: risen.min(MOST_RATE as u64) as u32,
+            tenths: risen.min(u64::from(MOST_RATE)) as u32,
         }
     }
 }

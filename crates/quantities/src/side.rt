@@ -1,6 +1,6 @@
 //! The two sides of the pool's money.
 
-#[derive(Clone, Copy)]
+#[derive(Clone, Copy, PartialEq, Eq)]
 pub enum Side {
     /// Owed to the pool: a positive sum.
     Payable,

@@ -14,7 +14,7 @@ impl Paise {
     pub fn tenths(self, count: u32) -> Paise
         ensures answer { result.paise ≡ pos (min (count * unsigned_abs self.paise / 10) most_paise) }
     {
-        let tenths = count as u128 * self.paise.unsigned_abs() as u128 / 10;
+        let tenths = u128::from(count) * u128::from(self.paise.unsigned_abs()) / 10;
         Paise {
             paise: tenths.min(i64::MAX as u128) as i64,
         }
