@@ -1,4 +1,5 @@
 pub mod Kinds
 pub mod Facts
 pub mod Refusals
+pub mod Numbers
 pub mod Rows

@@ -1,7 +1,7 @@
 //! All that a tariff may go by: the facts of one block.
 ghost use Rattle.facts.specs.Facts.{plain, with_metered, deviation};
-ghost use Rattle.facts.specs.Refusals.{facts_from, facts_fit, facts_of};
-ghost use Rattle.std.specs.Prelude.{◌≡◌, true, false, Ok, Err, MatchOption, MatchResult};
+ghost use Rattle.facts.specs.Numbers.{AreFactsOf};
+ghost use Rattle.std.specs.Prelude.{◌≡◌};
 
 use crate::{FactsRefusal, GridRow, Kind, Reading};
 use quantities::{Kwh, Rate};
@@ -12,47 +12,48 @@ pub struct BlockFacts {
     grid: GridRow,
 }
 
+/// The numbers of a block as they are given. The frequency is in hundredths of a hertz, the price in
+/// tenths of a paisa per kWh.
+#[derive(Clone, Copy)]
+pub struct FactsNumbers {
+    pub kind: i64,
+    pub scheduled: i64,
+    pub metered: i64,
+    pub available: i64,
+    pub hz100: i64,
+    pub price: i64,
+}
+
+impl TryFrom<FactsNumbers> for BlockFacts {
+    type Error = FactsRefusal;
+
+    ghost try_from_gives = { AreFactsOf };
+
+    /// The kind is tested first, then every limit.
+    fn try_from(numbers: FactsNumbers) -> Result<BlockFacts, FactsRefusal>
+        ensures answer { AreFactsOf numbers result }
+    {
+        let FactsNumbers {
+            kind,
+            scheduled,
+            metered,
+            available,
+            hz100,
+            price,
+        } = numbers;
+        let kind = Kind::try_from(kind)?;
+        let reading = Reading::new(kind, scheduled, metered, available);
+        let rows = reading.zip(GridRow::new(hz100, price));
+        let (reading, grid) = rows.ok_or(FactsRefusal::OutsideLimit)?;
+        Ok(BlockFacts::new(reading, grid))
+    }
+}
+
 impl BlockFacts {
     pub fn new(reading: Reading, grid: GridRow) -> BlockFacts
         ensures answer { (result.reading ≡ reading) × (result.grid ≡ grid) }
     {
         BlockFacts { reading, grid }
-    }
-
-    /// The facts of these numbers: the kind is tested first, then every limit.
-    pub fn from_numbers(
-        kind: i64,
-        scheduled: i64,
-        metered: i64,
-        available: i64,
-        hz100: i64,
-        price: i64,
-    ) -> Result<BlockFacts, FactsRefusal>
-        ensures answer { MatchResult result (λ b. facts_from kind scheduled metered available hz100 price ≡ Ok (plain b)) (λ e. facts_from kind scheduled metered available hz100 price ≡ Err e) }
-    {
-        let Some(kind) = Kind::from_number(kind) else {
-            return Err(FactsRefusal::UnknownKind);
-        };
-        match BlockFacts::of_kind(kind, scheduled, metered, available, hz100, price) {
-            Some(facts) => Ok(facts),
-            None => Err(FactsRefusal::OutsideLimit),
-        }
-    }
-
-    /// The facts of these numbers at a kind, none where a number is outside its limit.
-    fn of_kind(
-        kind: Kind,
-        scheduled: i64,
-        metered: i64,
-        available: i64,
-        hz100: i64,
-        price: i64,
-    ) -> Option<BlockFacts>
-        ensures answer { MatchOption result (facts_fit kind scheduled metered available hz100 price ≡ false) (λ b. (facts_fit kind scheduled metered available hz100 price ≡ true) × (plain b ≡ facts_of kind scheduled metered available hz100 price)) }
-    {
-        let reading = Reading::new(kind, scheduled, metered, available)?;
-        let grid = GridRow::new(hz100, price)?;
-        Some(BlockFacts::new(reading, grid))
     }
 
     pub fn kind(&self) -> Kind
@@ -103,15 +104,8 @@ impl BlockFacts {
     pub fn with_metered(&self, metered: Kwh) -> BlockFacts
         ensures answer { plain result ≡ with_metered (plain self.now) metered.kwh }
     {
-        let reading = Reading {
-            kind: self.kind(),
-            scheduled: self.scheduled(),
-            metered,
-            available: self.available(),
-        };
-        BlockFacts {
-            reading,
-            grid: self.grid,
-        }
+        let mut changed = *self;
+        changed.reading.metered = metered;
+        changed
     }
 }

@@ -8,8 +8,8 @@ mod reading;
 mod refusals;
 mod rows;
 
-pub use block_facts::BlockFacts;
+pub use block_facts::{BlockFacts, FactsNumbers};
 pub use grid_row::GridRow;
-pub use kinds::Kind;
+pub use kinds::{Kind, UnknownKind};
 pub use reading::Reading;
 pub use refusals::FactsRefusal;

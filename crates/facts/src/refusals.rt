@@ -2,25 +2,23 @@
 ghost use Rattle.facts.specs.Refusals.{refusal_number, refusal_words};
 ghost use Rattle.std.specs.Prelude.{◌≡◌, pos, Some};
 
+use crate::UnknownKind;
 use std::error::Error;
 use std::fmt;
 
-#[derive(Clone, Copy, Debug)]
+#[derive(Clone, Copy, Debug, PartialEq, Eq)]
 pub enum FactsRefusal {
     /// The kind is none of those that deviate.
-    UnknownKind,
+    UnknownKind = 3,
     /// Another number is outside its limit.
-    OutsideLimit,
+    OutsideLimit = 4,
 }
 
 impl FactsRefusal {
     pub fn number(self) -> i64
         ensures answer { result ≡ pos (refusal_number self) }
     {
-        match self {
-            FactsRefusal::UnknownKind => 3,
-            FactsRefusal::OutsideLimit => 4,
-        }
+        self as i64
     }
 
     fn words(self) -> &'static str
@@ -42,3 +40,13 @@ impl fmt::Display for FactsRefusal {
 }
 
 impl Error for FactsRefusal {}
+
+impl From<UnknownKind> for FactsRefusal {
+    ghost use Rattle.facts.specs.declared.refusals.FactsRefusal.TheVariants.{UnknownKind};
+
+    ghost from_gives = { λ _ refusal. refusal ≡ UnknownKind };
+
+    fn from(_kind: UnknownKind) -> FactsRefusal {
+        Self::UnknownKind
+    }
+}

@@ -14,7 +14,7 @@ impl Reading {
         let scheduled = Kwh::new(scheduled)?;
         let metered = Kwh::new(metered)?;
         let available = Kwh::new(available)?;
-        if available < kind.least_available() || kind.most_available() < available {
+        if !kind.available().contains(&available) {
             return None;
         }
         Some(Reading {

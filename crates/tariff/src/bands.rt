@@ -19,17 +19,16 @@ impl Tariff for Bands {
     fn charge(&self, facts: &BlockFacts) -> Paise {
         let available = facts.available();
         let deviation = facts.deviation().percent(100);
-        let first = deviation
-            .at_most(available.percent(25))
-            .less(available.percent(15));
-        let second = deviation
-            .at_most(available.percent(35))
-            .less(available.percent(25));
+        let band = |low, high| {
+            deviation
+                .at_most(available.percent(high))
+                .less(available.percent(low))
+        };
         let beyond = deviation.less(available.percent(35));
-        Paise::in_bands(
-            (Rate::of::<500>(), first),
-            (Rate::of::<1_000>(), second),
+        Paise::in_bands([
+            (Rate::of::<500>(), band(15, 25)),
+            (Rate::of::<1_000>(), band(25, 35)),
             (Rate::of::<1_500>(), beyond),
-        )
+        ])
     }
 }

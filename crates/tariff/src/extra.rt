@@ -28,6 +28,7 @@ fn is_past_limit(facts: &BlockFacts) -> bool
 }
 
 /// A charge with the part for the excess over the volume limit.
+#[tactic(auto, using(crate::specs::ExtraBounds::fifth_share))]
 fn with_extra(charge: Paise, facts: &BlockFacts) -> Paise
     ensures answer { result.paise ≡ raised_charge charge.paise (plain facts.now) }
 {

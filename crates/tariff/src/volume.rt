@@ -19,6 +19,7 @@ fn limit_by_schedule(facts: &BlockFacts) -> Kwh
 }
 
 /// How far a deviation may go before ceiling and extra apply.
+#[tactic(auto, unfolding(crate::specs::Volume::volume_limit))]
 pub fn volume_limit(facts: &BlockFacts) -> Kwh
     ensures answer { result.kwh ≡ volume_limit (plain facts.now) }
 {
