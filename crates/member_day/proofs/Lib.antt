@@ -1,4 +1,3 @@
 pub mod RunLaws
 pub mod DaySteps
-pub mod Dues
 pub mod LevelDay

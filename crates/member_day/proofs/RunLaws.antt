@@ -1,5 +1,5 @@
 -- The laws of runs. Assumes nothing.
-use Rattle.std.proofs.Common.{◌≡◌, ℕ, zero, suc, ◌+◌, ◌*◌, ◌/◌, ◌≤◌, false, cond, List, [], ◌∷◌, ◌++◌, length, replicate, refl, ap, arith}
+use Rattle.std.proofs.Common.{◌≡◌, ℕ, zero, suc, ◌+◌, ◌*◌, ◌/◌, ◌≤◌, true, false, cond, List, [], ◌∷◌, ◌++◌, length, replicate, refl, ap, arith}
 use Rattle.std.specs.List.{prefix_len}
 use Rattle.member_day.specs.Laws.{Counted}
 use Rattle.member_day.specs.Runs.{goes_on, moves, run_from, runs}
@@ -11,29 +11,19 @@ pub leading_level : (ds : List Direction) → prefix_len (goes_on Level) ds ≡ 
 leading_level [] = refl
 leading_level (d ∷ ds) = refl
 
-leading_over : (k : ℕ) → prefix_len (goes_on Over) (replicate k Over) ≡ k
-leading_over zero = refl
-leading_over (suc k) = let r = leading_over k in omega arith
+-- a stretch of one direction d, which goes on with itself
+module _ (d : Direction) (h : goes_on d d ≡ true) where
+  leading_same : (k : ℕ) → prefix_len (goes_on d) (replicate k d) ≡ k
+  leading_same zero = refl
+  leading_same (suc k) = let r = leading_same k in rw h (omega arith)
 
-leading_under : (k : ℕ) → prefix_len (goes_on Under) (replicate k Under) ≡ k
-leading_under zero = refl
-leading_under (suc k) = let r = leading_under k in omega arith
+  rest_same : (k : ℕ) → runs d (replicate k d) ≡ 0
+  rest_same zero = refl
+  rest_same (suc k) = let r = rest_same k in rw h (omega arith)
 
-rest_over : (k : ℕ) → runs Over (replicate k Over) ≡ 0
-rest_over zero = refl
-rest_over (suc k) = let r = rest_over k in omega arith
-
-rest_under : (k : ℕ) → runs Under (replicate k Under) ≡ 0
-rest_under zero = refl
-rest_under (suc k) = let r = rest_under k in omega arith
-
-one_over : (k : ℕ) → runs Level (replicate k Over) ≡ k / 7
-one_over zero = refl
-one_over (suc k) = let a = leading_over k in let b = rest_over k in omega arith
-
-one_under : (k : ℕ) → runs Level (replicate k Under) ≡ k / 7
-one_under zero = refl
-one_under (suc k) = let a = leading_under k in let b = rest_under k in omega arith
+  one_same : (k : ℕ) → moves d ≡ 1 → runs Level (replicate k d) ≡ k / 7
+  one_same zero e = refl
+  one_same (suc k) e = let a = leading_same k in let b = rest_same k in omega arith
 
 no_level : (k : ℕ) → runs Level (replicate k Level) ≡ 0
 no_level zero = refl
@@ -84,8 +74,8 @@ short Under (Under ∷ ds) = let r = short Under ds in omega arith
 
 pub counted : Counted
 counted = record {
-  over = one_over;
-  under = one_under;
+  over = λ k. one_same Over refl k refl;
+  under = λ k. one_same Under refl k refl;
   level = no_level;
   apart = parted Level;
   few = λ ds. let r = short Level ds in omega arith;

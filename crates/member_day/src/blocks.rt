@@ -19,10 +19,10 @@ pub(crate) fn facts_at(
     let grid = grid?;
     let reading = Reading::new(
         kind,
-        reading.scheduled as i64,
-        reading.metered as i64,
-        reading.available as i64,
+        i64::from(reading.scheduled),
+        i64::from(reading.metered),
+        i64::from(reading.available),
     )?;
-    let grid = GridRow::new(grid.hz100 as i64, grid.price as i64)?;
+    let grid = GridRow::new(i64::from(grid.hz100), i64::from(grid.price))?;
     Some(BlockFacts::new(reading, grid))
 }

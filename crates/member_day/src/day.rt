@@ -39,8 +39,8 @@ fn sums<T: Tariff>(
 {
     let mut base = Paise::NOTHING;
     let mut runs = RunCount::new();
-    for block in 0..BLOCKS {
-        let facts = facts_at(kind, readings[block], grid[block])?;
+    for (reading, row) in readings.iter().zip(grid) {
+        let facts = facts_at(kind, *reading, *row)?;
         base = base + charge_by(tariff, &facts);
         runs.step(direction_of(&facts));
     }

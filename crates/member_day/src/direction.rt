@@ -4,8 +4,9 @@ ghost use Rattle.member_day.specs.Runs.{direction, goes_on, moves};
 ghost use Rattle.std.specs.Prelude.{◌≡◌};
 
 use facts::BlockFacts;
+use std::cmp::Ordering;
 
-#[derive(Clone, Copy)]
+#[derive(Clone, Copy, PartialEq, Eq)]
 pub enum Direction {
     /// Metered as scheduled.
     Level,
@@ -18,12 +19,10 @@ pub enum Direction {
 pub(crate) fn direction_of(facts: &BlockFacts) -> Direction
     ensures answer { result ≡ direction (plain facts.now) }
 {
-    if facts.scheduled() < facts.metered() {
-        Direction::Over
-    } else if facts.metered() < facts.scheduled() {
-        Direction::Under
-    } else {
-        Direction::Level
+    match facts.metered().cmp(&facts.scheduled()) {
+        Ordering::Less => Direction::Under,
+        Ordering::Equal => Direction::Level,
+        Ordering::Greater => Direction::Over,
     }
 }
 
@@ -32,19 +31,13 @@ impl Direction {
     pub(crate) fn goes_on(self, before: Direction) -> bool
         ensures answer { result ≡ goes_on before self }
     {
-        match (before, self) {
-            (Direction::Over, Direction::Over) | (Direction::Under, Direction::Under) => true,
-            _ => false,
-        }
+        self == before && self != Direction::Level
     }
 
     /// The length of a run of this block alone: none is level.
     pub(crate) fn moves(self) -> u32
         ensures answer { result ≡ moves self }
     {
-        match self {
-            Direction::Level => 0,
-            Direction::Over | Direction::Under => 1,
-        }
+        u32::from(self != Direction::Level)
     }
 }

@@ -6,6 +6,7 @@ ghost use Rattle.member_day.specs.Runs.{runs};
 use crate::Direction;
 
 /// The runs of the blocks so far.
+// The room is no ghost field: each call needs room for its own blocks, so no clause would go.
 #[derive(Clone, Copy)]
 pub(crate) struct RunCount {
     /// What the runs that have ended count.
@@ -18,6 +19,7 @@ pub(crate) struct RunCount {
 
 impl RunCount {
     /// Before the first block.
+    #[tactic(auto, using(crate::proofs::RunLaws::leading_level))]
     pub(crate) fn new() -> RunCount
         ensures answer { (ds : List Direction) → after_all result ds ≡ runs Direction.Level ds }
         ensures bound { used result ≡ 0 }

@@ -4,7 +4,7 @@ ghost use Rattle.member_day.specs.Laws.{Counted};
 ghost use Rattle.member_day.specs.Runs.{runs};
 ghost use Rattle.member_day.specs.Worked.{laid_out};
 
-use crate::Direction;
+use crate::Direction::{self, Level, Over, Under};
 use crate::runs::RunCount;
 
 const STRETCHES: usize = 5;
@@ -16,7 +16,20 @@ pub struct Stretch {
     pub blocks: u8,
 }
 
+impl Direction {
+    /// So many blocks of this direction.
+    fn stretch(self, blocks: u8) -> Stretch
+        ensures answer { (result.direction ≡ self) × (result.blocks ≡ blocks) }
+    {
+        Stretch {
+            direction: self,
+            blocks,
+        }
+    }
+}
+
 /// The sum over the runs of a seventh of the length, rounded down, in the blocks of the stretches.
+#[tactic(auto, using(crate::proofs::RunLaws::counted))]
 pub fn sevenths_in(stretches: &[Stretch; STRETCHES]) -> u32
     ensures answer { result ≡ runs Direction.Level (laid_out stretches.now) }
     ensures law { Counted }
@@ -32,7 +45,13 @@ pub fn sevenths_in(stretches: &[Stretch; STRETCHES]) -> u32
 pub fn one_run(blocks: u8) -> u32
     ensures answer { result ≡ blocks / 7 }
 {
-    sevenths_in(&[level(0), over(blocks), level(0), level(0), level(0)])
+    sevenths_in(&[
+        Level.stretch(0),
+        Over.stretch(blocks),
+        Level.stretch(0),
+        Level.stretch(0),
+        Level.stretch(0),
+    ])
 }
 
 /// Runs of 6, 7, 13, 14 and 96 blocks, each alone, and three days of several runs.
@@ -45,35 +64,26 @@ pub fn worked_runs() -> [u32; 8]
         one_run(13),
         one_run(14),
         one_run(96),
-        sevenths_in(&[over(3), level(1), over(4), level(0), level(0)]),
-        sevenths_in(&[over(7), under(4), over(4), level(1), under(7)]),
-        sevenths_in(&[level(40), under(7), over(14), level(35), level(0)]),
+        sevenths_in(&[
+            Over.stretch(3),
+            Level.stretch(1),
+            Over.stretch(4),
+            Level.stretch(0),
+            Level.stretch(0),
+        ]),
+        sevenths_in(&[
+            Over.stretch(7),
+            Under.stretch(4),
+            Over.stretch(4),
+            Level.stretch(1),
+            Under.stretch(7),
+        ]),
+        sevenths_in(&[
+            Level.stretch(40),
+            Under.stretch(7),
+            Over.stretch(14),
+            Level.stretch(35),
+            Level.stretch(0),
+        ]),
     ]
-}
-
-fn level(blocks: u8) -> Stretch
-    ensures answer { (result.direction ≡ Direction.Level) × (result.blocks ≡ blocks) }
-{
-    Stretch {
-        direction: Direction::Level,
-        blocks,
-    }
-}
-
-fn over(blocks: u8) -> Stretch
-    ensures answer { (result.direction ≡ Direction.Over) × (result.blocks ≡ blocks) }
-{
-    Stretch {
-        direction: Direction::Over,
-        blocks,
-    }
-}
-
-fn under(blocks: u8) -> Stretch
-    ensures answer { (result.direction ≡ Direction.Under) × (result.blocks ≡ blocks) }
-{
-    Stretch {
-        direction: Direction::Under,
-        blocks,
-    }
 }

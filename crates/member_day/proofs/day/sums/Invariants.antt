@@ -1,18 +1,12 @@
 -- What the blocks to come add to the sums so far gives the sums of the day.
-use Rattle.std.proofs.Common.{◌≡◌, ◌*◌, ◌≤◌, drop, pos, nat_abs}
-use Rattle.quantities.specs.Limits.{most_charge}
-use Rattle.std.specs.Option.{option_map}
-use Rattle.member_day.specs.Counts.{used}
-use Rattle.member_day.specs.Days.{day_sums}
-use Rattle.member_day.specs.Entries.{day_facts}
-use Rattle.member_day.specs.Laws.{AsScheduled}
-use Rattle.member_day.proofs.DaySteps.{sums_after}
+use Rattle.std.specs.Iterator.Adapters.{zip_first, zip_second}
+use Rattle.std.specs.Slice.Iter.{iter_rest}
+use Rattle.member_day.proofs.DaySteps.{Underway}
 use Rattle.member_day.proofs.day.sums.Given as goal
 
-abbrev pub invariant-loop-block : goal.invariant-loop-block
-invariant-loop-block g l =
-    (option_map (sums_after (g.T.Tariff.meaning l.tariff) l.base l.runs) (day_facts l.kind (drop l.block l.readings) (drop l.block l.grid))
-    ≡ option_map (day_sums (g.T.Tariff.meaning l.tariff)) (day_facts l.kind l.readings l.grid))
-    × (nat_abs l.base.paise ≤ most_charge * l.block)
-    × (used l.runs ≤ l.block)
-    × (AsScheduled l.readings → l.base.paise ≡ pos 0)
+abbrev pub invariant-loop-reading : goal.invariant-loop-reading
+invariant-loop-reading g l = record {
+  can_go_on : (goal.iterator-loop-reading g).can_next l.reading-iterator;
+  ends : (goal.iterator-loop-reading g).is_finite l.reading-iterator;
+  underway : Underway (g.T.Tariff.meaning l.tariff) l.kind l.readings l.grid (iter_rest (zip_first l.reading-iterator)) (iter_rest (zip_second l.reading-iterator)) l.base l.runs;
+}
