@@ -16,7 +16,7 @@ pub extern "C" fn niszorgy_host_largest_remainder(
     ensures answer { result ≡ (may_ask amount weights.now && length into.old == length weights.now) }
     ensures after { into.new ≡ (if result then largest_remainder amount weights.now else into.old) }
 {
-    part_if_asked(&LargestRemainder, amount, weights, into)
+    part_if_asked(&LargestRemainder, amount, weights, into).is_ok()
 }
 
 /// Parts by running totals, where that may be asked and there is a place for each share.
@@ -25,5 +25,5 @@ pub extern "C" fn niszorgy_host_running(amount: u64, weights: &[u64], into: &mut
     ensures answer { result ≡ (may_ask amount weights.now && length into.old == length weights.now) }
     ensures after { into.new ≡ (if result then running amount weights.now else into.old) }
 {
-    part_if_asked(&Running, amount, weights, into)
+    part_if_asked(&Running, amount, weights, into).is_ok()
 }

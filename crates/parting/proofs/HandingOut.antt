@@ -1,12 +1,13 @@
 -- What the code of the largest remainder rule computes step by step. Assumes nothing.
-use Rattle.std.proofs.Common.{◌≡◌, ℕ, ◌+◌, ◌-◌, ◌*◌, ◌/◌, ◌%◌, ◌<◌, ◌≤◌, true, false, cond, ltb, leb, List, length, get_or, sum, ap, ◌∙◌, inl, inr, add-one, arith}
-use Rattle.std.proofs.lemmas.List.FromFn.{fill_by_all}
-use Rattle.std.proofs.lemmas.Bool.{cases_Bool}
+use Rattle.std.proofs.Common.{◌≡◌, ℕ, ◌+◌, ◌-◌, ◌*◌, ◌/◌, ◌%◌, ◌<◌, ◌≤◌, false, cond, count_by, ltb, List, map, length, get_or, sum, ap, ◌∙◌, mod-lt, arith}
+use Rattle.std.proofs.lemmas.List.FromFn.{length-map-range_with_len, get_or-map-range_with_len, fill_by_all}
+use Rattle.std.specs.List.{range_with_len}
+use Rattle.std.proofs.lemmas.Bool.{lt-ltb, le-ltb}
 use Rattle.std.proofs.lemmas.Bool.Decides.{nat_tests}
-use Rattle.parting.specs.LargestRemainder.{before, floor_at, largest_remainder, largest_share, left_over, precedes, rank_among, rank_at, rest_at}
-use Rattle.parting.specs.Places.{adds, by_place}
-use Rattle.parting.specs.Rule.{Asked, most_amount}
-use Rattle.parting.specs.Adding.{adds_less, adds_more, at_le_adds, tally_same}
+use Rattle.parting.specs.LargestRemainder.{floor_at, largest_remainder, largest_share, left_over, precedes, rank_at, rest_at, standing_at}
+use Rattle.parting.specs.Places.{adds, by_place, tally}
+use Rattle.parting.specs.Rule.{Asked, most_amount, most_total, most_weights}
+use Rattle.parting.specs.Adding.{adds_less, adds_list, at_le_adds, tally_past, tally_same}
 use Rattle.parting.specs.LargestLaw.{floors_le}
 use Rattle.parting.proofs.Writing.{placed_at, placed_length}
 
@@ -16,38 +17,31 @@ module _ (amount : ℕ) (ws : List ℕ) where
   unfolding floor_at
   floor_is k t e = rw e
 
-  pub rest_is : (k t : ℕ) → t ≡ sum ws → get_or ws k 0 * amount % t ≡ rest_at amount ws k
-  unfolding rest_at
-  rest_is k t e = rw e
-
   pub floors_front : Asked amount ws → (i : ℕ) → i ≤ length ws → adds (floor_at amount ws) i ≤ amount
   floors_front asked i h = omega (arith, adds_less (floor_at amount ws) i (length ws) h, floors_le amount ws asked)
 
--- ---- ranking: of two members the lower one, j, comes first unless the higher one, k, has the larger remainder
-one_ahead : (x y j k : ℕ) → j < k → ◌≡◌ {A = ℕ} (cond (before x j y k) 1 0) (cond (leb y x) 1 0)
-one_ahead x y j k h = elim (cases_Bool (leb y x)) [
-  | inl e ↦ let first : before x j y k ≡ true = grind (arith, nat_tests) in rw (e, first)
-  | inr e ↦ let first : before x j y k ≡ false = grind (arith, nat_tests) in rw (e, first)
-]
+-- ---- standing
+module _ (amount : ℕ) (ws : List ℕ) where
+  -- a remainder is below the total
+  pub rest_fits : Asked amount ws → (k t : ℕ) → t ≡ sum ws → get_or ws k 0 * amount % t < most_total
+  rest_fits asked k t e = rw e (omega (arith, mod-lt (get_or ws k 0 * amount) asked.weighs, asked.total_most))
 
-one_behind : (x y j k : ℕ) → j < k → ◌≡◌ {A = ℕ} (cond (before y k x j) 1 0) (1 - cond (leb y x) 1 0)
-one_behind x y j k h = elim (cases_Bool (leb y x)) [
-  | inl e ↦ let first : before y k x j ≡ false = grind (arith, nat_tests) in rw (e, first)
-  | inr e ↦ let first : before y k x j ≡ true = grind (arith, nat_tests) in rw (e, first)
-]
+  pub standing_is : (k t : ℕ) → t ≡ sum ws → k < length ws → get_or ws k 0 * amount % t * most_weights + (most_weights - k) ≡ standing_at amount ws k
+  unfolding standing_at rest_at
+  standing_is k t e h = rw (e, lt-ltb k (length ws) h)
 
-module _ (rest : ℕ → ℕ) (j k first : ℕ) (lower : j < k) (is : first ≡ cond (leb (rest k) (rest j)) 1 0) where
-  pub ranks_ahead : rank_among rest (j + 1) k ≡ rank_among rest j k + first
-  ranks_ahead = omega (arith, is, adds_more (λ i. cond (precedes rest k i) 1 0) j, one_ahead (rest j) (rest k) j k lower)
+  pub standing_none : (k : ℕ) → length ws ≤ k → standing_at amount ws k ≡ 0
+  unfolding standing_at
+  standing_none k h = rw (le-ltb k (length ws) h)
 
-  pub ranks_behind : rank_among rest (k + 1) j ≡ rank_among rest k j + (1 - first)
-  ranks_behind = omega (arith, is, adds_more (λ i. cond (precedes rest j i) 1 0) k, one_behind (rest j) (rest k) j k lower)
+  -- who stands higher comes before
+  higher : (j k : ℕ) → length ws ≤ most_weights → j < length ws → k < length ws → ltb (standing_at amount ws k) (standing_at amount ws j) ≡ precedes (rest_at amount ws) k j
+  unfolding standing_at
+  higher j k few lj lk = rw (lt-ltb j (length ws) lj, lt-ltb k (length ws) lk) (grind (arith, nat_tests))
 
--- nobody comes before himself
-pub rank_own : (rest : ℕ → ℕ) (k : ℕ) → rank_among rest (k + 1) k ≡ rank_among rest k k
-rank_own rest k =
-    let none : precedes rest k k ≡ false = grind (arith, nat_tests) in
-    rw (add-one, none) (omega arith)
+  -- and nobody stands lower than where there is no member
+  none_higher : (j k : ℕ) → length ws ≤ j → ltb (standing_at amount ws k) (standing_at amount ws j) ≡ false
+  none_higher j k h = rw (standing_none j h) (le-ltb (standing_at amount ws k) 0 (omega arith))
 
 -- ---- handing out
 module _ (amount : ℕ) (ws floors : List ℕ) (floored : floors ≡ by_place ws (floor_at amount ws)) where
@@ -56,19 +50,26 @@ module _ (amount : ℕ) (ws floors : List ℕ) (floored : floors ≡ by_place ws
       let l : k < length ws = omega (arith, placed_length ws _ floors floored) in
       omega (arith, placed_at ws _ floors floored k l, at_le_adds (floor_at amount ws) (length ws) k l, floors_le amount ws asked, asked.amount_most)
 
-  module _ (rests ranks : List ℕ) (rested : rests ≡ by_place ws (rest_at amount ws)) (ranked : ranks ≡ by_place rests (rank_among (λ i. get_or rests i 0) (length rests))) where
-    rank_is : (k : ℕ) → k < length ws → get_or ranks k 0 ≡ rank_at amount ws k
+  module _ (stands : List ℕ) (few : length ws ≤ most_weights) (all : stands ≡ map (standing_at amount ws) (range_with_len 0 most_weights)) where
+    long : length stands ≡ most_weights
+    long = ap length all ∙ length-map-range_with_len (standing_at amount ws) 0 most_weights
+
+    stood : (k : ℕ) → k < most_weights → get_or stands k 0 ≡ standing_at amount ws k
+    stood k h = ap (λ zs. get_or zs k 0) all ∙ get_or-map-range_with_len (standing_at amount ws) 0 most_weights k k 0 h (omega arith)
+
+    rank_is : (k : ℕ) → k < length ws → count_by (λ other. ltb (get_or stands k 0) other) stands ≡ rank_at amount ws k
     unfolding rank_at
     rank_is k h =
-        let long = placed_length ws _ rests rested in
-        placed_at rests _ ranks ranked k (omega arith)
-        ∙ ap (λ n. rank_among (λ i. get_or rests i 0) n k) long
-        ∙ tally_same (precedes (λ i. get_or rests i 0) k) (precedes (rest_at amount ws) k) (length ws) (λ j l. rw (placed_at ws _ rests rested j l, placed_at ws _ rests rested k h))
+        adds_list (λ other. cond (ltb (get_or stands k 0) other) 1 0) stands
+        ∙ ap (tally (λ j. ltb (get_or stands k 0) (get_or stands j 0))) long
+        ∙ tally_same (λ j. ltb (get_or stands k 0) (get_or stands j 0)) (λ j. ltb (standing_at amount ws k) (standing_at amount ws j)) most_weights (λ j l. rw (stood j l, stood k (omega arith)))
+        ∙ tally_past (λ j. ltb (standing_at amount ws k) (standing_at amount ws j)) (length ws) most_weights few (λ j low high. none_higher amount ws j k low)
+        ∙ tally_same (λ j. ltb (standing_at amount ws k) (standing_at amount ws j)) (precedes (rest_at amount ws) k) (length ws) (λ j l. higher amount ws j k few l h)
 
-    pub handed_out : (left : ℕ) (out : List ℕ) → left ≡ left_over amount ws → out ≡ by_place floors (λ k. get_or floors k 0 + cond (ltb (get_or ranks k 0) left) 1 0) → out ≡ largest_remainder amount ws
+    pub handed_out : (left : ℕ) (out : List ℕ) → left ≡ left_over amount ws → out ≡ by_place floors (λ k. get_or floors k 0 + cond (ltb (count_by (λ other. ltb (get_or stands k 0) other) stands) left) 1 0) → out ≡ largest_remainder amount ws
     unfolding largest_share
     handed_out left out over e =
-        let long = placed_length ws _ floors floored in
-        fill_by_all (largest_share amount ws) out (length ws) 0 (placed_length floors _ out e ∙ long) (λ k h.
+        let floors-long = placed_length ws _ floors floored in
+        fill_by_all (largest_share amount ws) out (length ws) 0 (placed_length floors _ out e ∙ floors-long) (λ k h.
         let at : k < length floors = omega arith in
         placed_at floors _ out e k at ∙ rw (placed_at ws _ floors floored k h, rank_is k h, over))

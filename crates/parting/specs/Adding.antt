@@ -1,5 +1,5 @@
 -- Laws of `adds` and `tally`. Assumes nothing.
-use Rattle.std.specs.Prelude.{◌≡◌, ℕ, zero, suc, ◌+◌, ◌*◌, ◌<◌, ◌≤◌, Bool, true, false, cond, List, map, length, take, sum, slice_index, refl}
+use Rattle.std.specs.Prelude.{◌≡◌, ℕ, zero, suc, ◌+◌, ◌*◌, ◌<◌, ◌≤◌, Bool, true, false, cond, List, map, length, take, sum, sum_by, slice_index, refl}
 use Rattle.std.proofs.Common.{sym, ap, ◌∙◌, inl, inr, add-one, mul-add, mul-zero, arith}
 use Rattle.std.proofs.Math.Arith.{le-zero}
 use Rattle.std.specs.List.{range_with_len}
@@ -37,13 +37,13 @@ pub adds_less : (f : ℕ → ℕ) (i n : ℕ) → i ≤ n → adds f i ≤ adds 
 adds_less f i zero h = omega (arith, ap (adds f) (le-zero h))
 adds_less f i (suc n) h = elim (cases_eq i (suc n)) [ inl e ↦ omega (arith, ap (adds f) e) | inr ne ↦ omega (arith, adds_less f i n (omega arith)) ]
 
--- the sum of a list's front, and of a list made by place
-pub adds_front : (ws : List ℕ) (n : ℕ) → n ≤ length ws → sum (take n ws) ≡ adds (λ k. slice_index ws k) n
-adds_front ws zero h = refl
-adds_front ws (suc n) h = omega (arith, rw add-one at (sum_by_more (λ x. x) ws n 0 h), adds_front ws n (omega arith))
+-- the sum over a list's front and over all of it, and of a list made by place
+pub adds_front : (f : ℕ → ℕ) (ws : List ℕ) (n : ℕ) → n ≤ length ws → sum_by f (take n ws) ≡ adds (λ k. f (slice_index ws k)) n
+adds_front f ws zero h = refl
+adds_front f ws (suc n) h = omega (arith, rw add-one at (sum_by_more f ws n 0 h), adds_front f ws n (omega arith))
 
-pub adds_list : (ws : List ℕ) → sum ws ≡ adds (λ k. slice_index ws k) (length ws)
-adds_list ws = sym (ap sum (take_all (length ws) ws (omega arith))) ∙ adds_front ws (length ws) (omega arith)
+pub adds_list : (f : ℕ → ℕ) (ws : List ℕ) → sum_by f ws ≡ adds (λ k. f (slice_index ws k)) (length ws)
+adds_list f ws = sym (ap (sum_by f) (take_all (length ws) ws (omega arith))) ∙ adds_front f ws (length ws) (omega arith)
 
 pub adds_by_place : (f : ℕ → ℕ) (n : ℕ) → sum (map f (range_with_len 0 n)) ≡ adds f n
 adds_by_place f zero = refl
@@ -59,6 +59,14 @@ tally_same p q n h = adds_same _ _ n (λ k l. ap (λ b. cond b 1 0) (h k l))
 
 pub tally_le : (p q : ℕ → Bool) (n : ℕ) → ((k : ℕ) → k < n → p k ≡ true → q k ≡ true) → tally p n ≤ tally q n
 tally_le p q n h = adds_le _ _ n (λ k l. one_if_le (p k) (q k) (h k l))
+
+-- and as many, where none passes past the first n
+pub tally_past : (p : ℕ → Bool) (n m : ℕ) → n ≤ m → ((k : ℕ) → n ≤ k → k < m → p k ≡ false) → tally p m ≡ tally p n
+tally_past p n zero h none = ap (tally p) (sym (le-zero h))
+tally_past p n (suc m) h none = elim (cases_eq n (suc m)) [
+  | inl e ↦ ap (tally p) (sym e)
+  | inr ne ↦ let z : ◌≡◌ {A = ℕ} (cond (p m) 1 0) 0 = ap (λ b. cond b 1 0) (none m (omega arith) (omega arith)) in omega (arith, z, tally_past p n m (omega arith) (λ k l b. none k l (omega arith)))
+]
 
 -- and fewer, where j passes one test and not the other
 pub tally_lt : (p q : ℕ → Bool) (n j : ℕ) → ((k : ℕ) → k < n → p k ≡ true → q k ≡ true) → j < n → p j ≡ false → q j ≡ true → tally p n < tally q n

@@ -1,6 +1,7 @@
 -- The shares of the largest remainder rule. Assumes nothing.
 use Rattle.std.specs.Prelude.{ℕ, ◌+◌, ◌-◌, ◌*◌, ◌/◌, ◌%◌, Bool, cond, ◌&&◌, ◌||◌, List, length, sum, ◌==◌, nat_lt, slice_index}
 use Rattle.parting.specs.Places.{adds, by_place, tally}
+use Rattle.parting.specs.Rule.{most_weights}
 
 -- By hand: multiply each weight by the sum and divide by the total of the weights; the quotient is the share
 -- rounded down, and note the remainder. See how many paise that leaves over. Number the members from the
@@ -27,6 +28,10 @@ before x j y k = nat_lt y x || (x == y && nat_lt j k)
 -- j comes before k
 abbrev pub precedes : (ℕ → ℕ) → ℕ → ℕ → Bool
 precedes rest k j = before (rest j) j (rest k) k
+
+-- where the member at k stands, higher than those that come after it; past the members 0
+unfoldable pub standing_at : ℕ → List ℕ → ℕ → ℕ
+standing_at amount ws k = cond (nat_lt k (length ws)) (rest_at amount ws k * most_weights + (most_weights - k)) 0
 
 -- how many of the first n members come before k
 abbrev pub rank_among : (ℕ → ℕ) → ℕ → ℕ → ℕ

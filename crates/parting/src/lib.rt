@@ -7,7 +7,7 @@ mod rule;
 mod running;
 mod worked;
 
-pub use asked::part_if_asked;
+pub use asked::{NotAsked, part_if_asked};
 pub use largest_remainder::LargestRemainder;
 pub use rule::{MOST_WEIGHTS, PartingRule};
 pub use running::Running;

@@ -13,14 +13,16 @@ impl PartingRule for Running {
 
     ghost fair = { λ rule amount weights asked. running_fair amount weights asked };
 
+    #[tactic(auto, using(crate::specs::RunningLaw::starts))]
     fn part(&self, amount: u64, weights: &[u64], into: &mut [u64]) {
         let total: u64 = weights.iter().sum();
         let mut seen = 0;
         let mut given = 0;
-        for (i, weight) in weights.iter().enumerate() {
-            seen += *weight;
+        into.copy_from_slice(weights);
+        for share in into.iter_mut() {
+            seen += *share;
             let reached = whole_paise(seen, amount, total);
-            into[i] = reached - given;
+            *share = reached - given;
             given = reached;
         }
     }

@@ -2,7 +2,6 @@
 ghost use Rattle.std.specs.Prelude.{ℕ, ◌≤◌, length};
 
 use crate::seeded::Generator;
-use anyhow::anyhow;
 use parting::{
     LargestRemainder, MOST_WEIGHTS, PartingRule, Running, part_if_asked,
     payables_by_largest_remainder, ten_by_largest_remainder, ten_by_running,
@@ -42,11 +41,8 @@ fn part_and_print(rt: &impl Print, amount: u64, weights: &[u64]) -> anyhow::Resu
     let largest = &mut first[0..count];
     let mut second = [0; MOST_WEIGHTS];
     let running = &mut second[0..count];
-    if !part_if_asked(&LargestRemainder, amount, weights, largest)
-        || !part_if_asked(&Running, amount, weights, running)
-    {
-        return Err(anyhow!("a rule was asked what it may not be"));
-    }
+    part_if_asked(&LargestRemainder, amount, weights, largest)?;
+    part_if_asked(&Running, amount, weights, running)?;
     print_sum(rt, amount, weights, largest, running)
 }
 
@@ -62,9 +58,7 @@ pub fn by_hand(rt: &impl Print) -> anyhow::Result<()> {
     )?;
     let weights = [2_850, 1_900, 3_500, 1_500];
     let mut running = [0; 4];
-    if !part_if_asked(&Running, 10_500, &weights, &mut running) {
-        return Err(anyhow!("a rule was asked what it may not be"));
-    }
+    part_if_asked(&Running, 10_500, &weights, &mut running)?;
     print_sum(
         rt,
         10_500,

@@ -5,4 +5,4 @@ use Rattle.parting.proofs.worked.payables_by_largest_remainder.Goals as goal
 
 pub returns : goal.returns
 unfolding largest_share floor_at rest_at left_over rank_at
-returns c = record { answer = c.part.ensures.after; law = refl }
+returns c = record { answer = c.shares.ensures.answer; law = refl }

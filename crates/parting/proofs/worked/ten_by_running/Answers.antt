@@ -5,4 +5,4 @@ use Rattle.parting.proofs.worked.ten_by_running.Goals as goal
 
 pub returns : goal.returns
 unfolding running_share running_total
-returns c = record { answer = c.part.ensures.after; law = refl }
+returns c = record { answer = c.shares.ensures.answer; law = refl }
