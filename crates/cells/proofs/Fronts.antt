@@ -1,8 +1,11 @@
 -- The front of the bytes, and the digits that it starts with, byte after byte.
-use Rattle.std.proofs.Common.{◌≡◌, ℕ, suc, ◌+◌, ◌-◌, ◌*◌, ◌<◌, ◌≤◌, true, false, cond, List, [], ◌∷◌, length, get_or, take, drop, None, refl, ap, ◌∙◌, suc-le-suc, zero-le, arith}
+use Rattle.std.proofs.Common.{◌≡◌, ℕ, suc, ◌+◌, ◌-◌, ◌*◌, ◌<◌, ◌≤◌, true, false, cond, ltb, List, [], ◌∷◌, length, get_or, take, drop, None, Some, refl, ap, ◌∙◌, suc-le-suc, zero-le, arith}
 use Rattle.cells.specs.Numbers.{is_digit, digits_after}
 use Rattle.cells.specs.Scans.{is_stop, front}
 use Rattle.std.proofs.lemmas.List.{drop_more, drop_all}
+use Rattle.std.proofs.lemmas.List.Recursion.{is_position_or_len}
+use Rattle.std.specs.List.{position_or_len}
+use Rattle.std.specs.Option.{unwrap_or}
 use Rattle.std.proofs.lemmas.Bool.{cond-true, cond-false}
 use Rattle.std.proofs.lemmas.Bool.Decides.{nat_tests}
 
@@ -35,3 +38,13 @@ front_past bs i h = ap front (drop_all i bs h)
 -- one digit more
 pub digits_more : (v : ℕ) (b : ℕ) (bs : List ℕ) → is_digit b ≡ true → digits_after v (b ∷ bs) ≡ digits_after (v * 10 + (b - 48)) bs
 digits_more v b bs e = cond-true _ (digits_after (v * 10 + (b - 48)) bs) None e
+
+-- the place of the first stop, or the length
+pub front_place : (bs : List ℕ) → length (front bs) ≡ position_or_len is_stop bs
+front_place = is_position_or_len (λ bs. length (front bs)) is_stop refl (λ b bs. elim (is_stop b) as (λ t. length (cond t [] (b ∷ front bs)) ≡ cond t 0 (1 + length (front bs))) [ true ↦ refl | false ↦ omega arith ])
+
+pub place_or_len : (bs : List ℕ) → unwrap_or (cond (ltb (position_or_len is_stop bs) (length bs)) (Some (position_or_len is_stop bs)) None) (length bs) ≡ length (front bs)
+place_or_len bs =
+    let e = front_place bs in
+    let k = front_le bs in
+    grind (arith, nat_tests)

@@ -1,10 +1,14 @@
 -- A cell taken from the lines.
-use Rattle.std.proofs.Common.{◌≡◌, ℕ, suc, ◌+◌, ◌<◌, ◌≤◌, true, false, cond, eqb, ltb, List, [], ◌∷◌, length, get_or, drop, sym, refl, ap, ◌∙◌, subst, ⊎_elim, suc-le-suc, zero-le, arith, length-drop}
-use Rattle.cells.specs.Cells.{lines, onto, comma, line_feed, placed}
-use Rattle.cells.specs.Left.{first_cells, open_lines, texts_at, after_at, others, is_some_left}
+use Rattle.std.proofs.Common.{◌≡◌, ℕ, suc, ◌+◌, ◌<◌, Bool, true, false, cond, eqb, List, [], ◌∷◌, length, get_or, drop, Some, sym, refl, ap, ◌∙◌, suc-le-suc, zero-le, arith, length-drop}
+use Rattle.cells.specs.Cells.{lines, onto, comma, line_feed, placed, cell_at}
+use Rattle.cells.specs.Left.{first_cells, open_lines, cells_at, after_at, first, others, is_some_left}
+use Rattle.cells.specs.Places.{next_at}
+use Rattle.cells.specs.declared.line.Next.TheVariants.{Cell, Line}
+use Rattle.cells.specs.declared.line.Next.{Next}
 use Rattle.cells.specs.Scans.{front}
 use Rattle.std.proofs.lemmas.List.{drop-drop, drop_all, get_or-drop, get_or_past}
-use Rattle.std.proofs.lemmas.Bool.{true≢false, cond-true, cond-false, cases_Bool, eqb-true, or_from, cases_lt, lt-ltb, le-ltb}
+use Rattle.std.proofs.lemmas.Bool.Decides.{nat_tests}
+use Rattle.std.proofs.lemmas.Bool.{true≢false}
 
 onto_some : (b : ℕ) (ls : List (List ℕ)) → 0 < length (onto b ls)
 onto_some b [] = suc-le-suc zero-le
@@ -31,79 +35,78 @@ others_before : (b : ℕ) (bs : List ℕ) → others (onto b (lines bs)) ≡ oth
 others_before b [] = refl
 others_before b (c ∷ cs) = others_onto b (lines (c ∷ cs)) (lines_some c cs)
 
+-- what follows a cell, from the byte after its end on: cells of the line after a comma, else other lines
+abbrev cells_after : Bool → List ℕ → List (List ℕ)
+cells_after true bs = first_cells (open_lines bs)
+cells_after false bs = []
+
+abbrev lines_from : Bool → List ℕ → List (List ℕ)
+lines_from true bs = others (open_lines bs)
+lines_from false bs = lines bs
+
 -- the front is the first cell, and the byte after it says what follows
 pub record Taken (bs : List ℕ) : Type 0 where
-  pub texts : first_cells (open_lines bs) ≡ front bs ∷ texts_at (eqb (get_or bs (length (front bs)) 0) comma) (drop (suc (length (front bs))) bs)
-  pub after : others (open_lines bs) ≡ after_at (eqb (get_or bs (length (front bs)) 0) comma) (drop (suc (length (front bs))) bs)
+  pub texts : first_cells (open_lines bs) ≡ front bs ∷ cells_after (eqb (get_or bs (length (front bs)) 0) comma) (drop (suc (length (front bs))) bs)
+  pub after : others (open_lines bs) ≡ lines_from (eqb (get_or bs (length (front bs)) 0) comma) (drop (suc (length (front bs))) bs)
 
-at_comma : (bs : List ℕ) → Taken (44 ∷ bs)
-at_comma bs = record { texts = cells_before 44 bs; after = others_before 44 bs }
+more_texts : (b : ℕ) (bs : List ℕ) → Taken bs → first_cells (open_lines (b ∷ bs)) ≡ front (b ∷ bs) ∷ cells_after (eqb (get_or (b ∷ bs) (length (front (b ∷ bs))) 0) comma) (drop (suc (length (front (b ∷ bs)))) (b ∷ bs))
+more_texts b bs o = let c = cells_before b bs in let t = o.texts in grind (arith, nat_tests)
 
-at_line_feed : (bs : List ℕ) → Taken (10 ∷ bs)
-at_line_feed bs = record { texts = refl; after = refl }
-
-module _ (b : ℕ) (bs : List ℕ) (no-comma : eqb b comma ≡ false) (no-feed : eqb b line_feed ≡ false) (o : Taken bs) where
-  goes : front (b ∷ bs) ≡ b ∷ front bs
-  goes = cond-false _ [] (b ∷ front bs) (or_from _ _ no-comma no-feed)
-
-  between : Taken (b ∷ bs)
-  between =
-      let e = goes in
-      record {
-        texts = ap first_cells (cond-false _ ([] ∷ lines bs) (onto b (lines bs)) no-feed)
-            ∙ cells_before b bs
-            ∙ cond-false _ _ _ no-comma
-            ∙ ap (onto b) o.texts
-            ∙ sym (ap (λ f. f ∷ texts_at (eqb (get_or (b ∷ bs) (length f) 0) comma) (drop (suc (length f)) (b ∷ bs))) e);
-        after = ap others (cond-false _ ([] ∷ lines bs) (onto b (lines bs)) no-feed)
-            ∙ others_before b bs
-            ∙ o.after
-            ∙ sym (ap (λ f. after_at (eqb (get_or (b ∷ bs) (length f) 0) comma) (drop (suc (length f)) (b ∷ bs))) e);
-      }
+more_after : (b : ℕ) (bs : List ℕ) → Taken bs → others (open_lines (b ∷ bs)) ≡ lines_from (eqb (get_or (b ∷ bs) (length (front (b ∷ bs))) 0) comma) (drop (suc (length (front (b ∷ bs)))) (b ∷ bs))
+more_after b bs o = let c = others_before b bs in let t = o.after in grind (arith, nat_tests)
 
 pub taken : (bs : List ℕ) → Taken bs
 taken [] = record { texts = refl; after = refl }
-taken (b ∷ bs) =
-    ⊎_elim
-    (λ c. subst (λ x. Taken (x ∷ bs)) (sym (eqb-true b comma c)) (at_comma bs))
-    (λ c. ⊎_elim
-    (λ f. subst (λ x. Taken (x ∷ bs)) (sym (eqb-true b line_feed f)) (at_line_feed bs))
-    (λ f. between b bs c f (taken bs))
-    (cases_Bool (eqb b line_feed)))
-    (cases_Bool (eqb b comma))
+taken (b ∷ bs) = record { texts = more_texts b bs (taken bs); after = more_after b bs (taken bs) }
+
+-- a cell or a line that starts there
+abbrev pick : Bool → ℕ → Next
+pick b k = cond b (Cell k) (Line k)
+
+cells_pick : (b : Bool) (k : ℕ) (bs : List ℕ) → cells_at (pick b k) bs ≡ placed k (cells_after b (drop k bs))
+cells_pick true k bs = refl
+cells_pick false k bs = refl
+
+after_pick : (b : Bool) (k : ℕ) (bs : List ℕ) → after_at (pick b k) bs ≡ lines_from b (drop k bs)
+after_pick true k bs = refl
+after_pick false k bs = refl
 
 -- the same at a place of the bytes, where e is the end of the cell
-module _ (bs : List ℕ) (at e : ℕ) (h : e ≡ at + length (front (drop at bs))) (low : at ≤ length bs) where
-  abbrev next : ℕ
-  next = cond (ltb e (length bs)) (e + 1) e
-
+module _ (bs : List ℕ) (at e : ℕ) (h : e ≡ at + length (front (drop at bs))) where
   here : get_or (drop at bs) (length (front (drop at bs))) 0 ≡ get_or bs e 0
   here = get_or-drop at bs (length (front (drop at bs))) 0 ∙ ap (λ k. get_or bs k 0) (sym h)
 
-  rest : drop (suc (length (front (drop at bs)))) (drop at bs) ≡ drop (cond (ltb e (length bs)) (e + 1) e) bs
-  rest =
-      drop-drop (suc (length (front (drop at bs)))) at bs ∙
-      ⊎_elim
-      (λ inside. ap (λ k. drop k bs) (let k : at + suc (length (front (drop at bs))) ≡ e + 1 = omega arith in k) ∙ sym (ap (λ k. drop k bs) (cond-true _ (e + 1) e (lt-ltb _ _ inside))))
-      (λ past. drop_all _ bs (omega arith) ∙ sym (ap (λ k. drop k bs) (cond-false _ (e + 1) e (le-ltb _ _ past)) ∙ drop_all _ bs past))
-      (cases_lt e (length bs))
+  place : at + length (front (drop at bs)) + 1 ≡ e + 1
+  place = ap (λ k. k + 1) (sym h)
 
-  pub texts_next : first_cells (open_lines (drop at bs)) ≡ front (drop at bs) ∷ texts_at (eqb (get_or bs e 0) comma) (drop (cond (ltb e (length bs)) (e + 1) e) bs)
-  texts_next = (taken (drop at bs)).texts ∙ (λ t. front (drop at bs) ∷ texts_at (eqb (here t) comma) (rest t))
+  rest : drop (suc (length (front (drop at bs)))) (drop at bs) ≡ drop (e + 1) bs
+  rest = drop-drop (suc (length (front (drop at bs)))) at bs ∙ ap (λ k. drop k bs) (let k : at + suc (length (front (drop at bs))) ≡ e + 1 = omega arith in k)
 
-  pub after_next : others (open_lines (drop at bs)) ≡ after_at (eqb (get_or bs e 0) comma) (drop (cond (ltb e (length bs)) (e + 1) e) bs)
-  after_next = (taken (drop at bs)).after ∙ (λ t. after_at (eqb (here t) comma) (rest t))
+  -- the cells after it, each with its place, and the lines
+  cells_there : others (placed at (first_cells (open_lines (drop at bs)))) ≡ placed (e + 1) (cells_after (eqb (get_or bs e 0) comma) (drop (e + 1) bs))
+  cells_there = ap (λ ts. others (placed at ts)) (taken (drop at bs)).texts ∙ (λ t. placed (place t) (cells_after (eqb (here t) comma) (rest t)))
 
-  -- the places of the cells after it
-  pub places_next : placed (cond (ltb e (length bs)) (e + 1) e) (texts_at (eqb (get_or bs e 0) comma) (drop (cond (ltb e (length bs)) (e + 1) e) bs)) ≡ others (placed at (first_cells (open_lines (drop at bs))))
-  places_next =
-      ⊎_elim
-      (λ inside. ap (λ k. placed k (texts_at (eqb (get_or bs e 0) comma) (drop (cond (ltb e (length bs)) (e + 1) e) bs))) (cond-true _ (e + 1) e (lt-ltb e (length bs) inside) ∙ ap (λ k. k + 1) h))
-      (λ past.
-      let none : texts_at (eqb (get_or bs e 0) comma) (drop (cond (ltb e (length bs)) (e + 1) e) bs) ≡ [] = ap (λ b. texts_at (eqb b comma) (drop (cond (ltb e (length bs)) (e + 1) e) bs)) (get_or_past bs e 0 past) in
-      ap (placed (cond (ltb e (length bs)) (e + 1) e)) none ∙ sym (ap (placed (at + length (front (drop at bs)) + 1)) none))
-      (cases_lt e (length bs))
-      ∙ sym (ap (λ ts. others (placed at ts)) texts_next)
+  lines_there : others (open_lines (drop at bs)) ≡ lines_from (eqb (get_or bs e 0) comma) (drop (e + 1) bs)
+  lines_there = (taken (drop at bs)).after ∙ (λ t. lines_from (eqb (here t) comma) (rest t))
+
+  pub cell_first : first (placed at (first_cells (open_lines (drop at bs)))) ≡ Some (cell_at at (front (drop at bs)))
+  cell_first = ap (λ ts. first (placed at ts)) (taken (drop at bs)).texts
+
+  pub cells_next : cells_at (next_at bs e) bs ≡ others (placed at (first_cells (open_lines (drop at bs))))
+  cells_next =
+      let t = cells_there in
+      let p = cells_pick (eqb (get_or bs e 0) comma) (e + 1) bs in
+      let past = get_or_past bs e 0 in
+      grind (arith, nat_tests)
+
+  pub after_next : after_at (next_at bs e) bs ≡ others (open_lines (drop at bs))
+  after_next =
+      let t = lines_there in
+      let p = after_pick (eqb (get_or bs e 0) comma) (e + 1) bs in
+      let past = get_or_past bs e 0 in
+      let none = drop_all (length bs) bs (omega arith) in
+      let none_after = drop_all (e + 1) bs in
+      grind (arith, nat_tests)
 
 some : (bs : List ℕ) → 0 < length bs → open_lines bs ≡ lines bs
 some [] h = absurd (omega arith)

@@ -1,34 +1,37 @@
 -- What a cell that was taken says of the cells that were left.
-use Rattle.std.proofs.Common.{◌≡◌, ℕ, ◌+◌, true, false, List, [], ◌∷◌, length, Some, None, Option, sym, refl, ap, ◌∙◌, arith}
+use Rattle.std.proofs.Common.{◌≡◌, ℕ, ◌+◌, true, false, List, [], ◌∷◌, length, drop, Some, None, sym, refl, ap, ◌∙◌, arith}
 use Rattle.cells.specs.Cells.{CellShown, placed, texts}
-use Rattle.cells.specs.Left.{first, others, is_some_left, cells_left}
+use Rattle.cells.specs.Left.{first, others, first_cells, open_lines, is_some_left, cells_at, cells_left}
 use Rattle.cells.specs.Numbers.{meaning}
 use Rattle.cells.specs.declared.line.LineCells.{LineCells}
-use Rattle.std.proofs.lemmas.Bool.{true≢false}
+use Rattle.cells.specs.declared.line.Next.TheVariants.{Cell, Line}
+use Rattle.cells.specs.declared.line.Next.{Next}
 
 pub record Took (s t : LineCells) (c : CellShown) : Type 0 where
   pub were : texts (cells_left s) ≡ c.bytes ∷ texts (cells_left t)
   pub means : c.means ≡ meaning c.bytes
 
-some_none : {A X : Type 0} {x : X} → ◌≡◌ {A = Option X} (Some x) None → A
-some_none h = absurd (let z : ◌≡◌ {A = ℕ} 0 1 = cc in omega arith)
-
-some_same : {X : Type 0} {x y : X} → ◌≡◌ {A = Option X} (Some x) (Some y) → x ≡ y
+some_same : {X : Type 0} {x y : X} → Some x ≡ Some y → x ≡ y
 some_same h = cc
 
 shape : (at : ℕ) (ts : List (List ℕ)) (c : CellShown) (ys : List CellShown) → Some c ≡ first (placed at ts) → ys ≡ others (placed at ts) → (texts (placed at ts) ≡ c.bytes ∷ texts ys) × (c.means ≡ meaning c.bytes)
-shape at [] c ys e k = some_none e
+shape at [] c ys e k = cc
 shape at (t ∷ ts) c ys e k =
     let p = some_same e in
     (sym ((λ i. (p i).bytes ∷ texts (k i))), (λ i. (p i).means) ∙ sym (λ i. meaning (p i).bytes))
 
+-- whatever comes next
+shape_at : (n : Next) (bs : List ℕ) (c : CellShown) (ys : List CellShown) → Some c ≡ first (cells_at n bs) → ys ≡ others (cells_at n bs) → (texts (cells_at n bs) ≡ c.bytes ∷ texts ys) × (c.means ≡ meaning c.bytes)
+shape_at (Cell at) bs c ys e k = shape at (first_cells (open_lines (drop at bs))) c ys e k
+shape_at (Line at) bs c ys e k = cc
+
 -- a cell was taken
 pub took : (s t : LineCells) (c : CellShown) → Some c ≡ first (cells_left s) → cells_left t ≡ others (cells_left s) → Took s t c
-took s t c e k = let p = shape _ _ c (cells_left t) e k in record { were = p.0; means = p.1 }
+took s t c e k = let p = shape_at s.next s.bytes.now c (cells_left t) e k in record { were = p.0; means = p.1 }
 
 none_first : (xs : List CellShown) → None ≡ first xs → texts xs ≡ []
 none_first [] e = refl
-none_first (x ∷ xs) e = some_none (sym e)
+none_first (x ∷ xs) e = cc
 
 -- none was left to take
 pub took_none : (s : LineCells) → None ≡ first (cells_left s) → texts (cells_left s) ≡ []
@@ -36,10 +39,10 @@ took_none s e = none_first (cells_left s) e
 
 pub none_left : (xs : List CellShown) → is_some_left xs ≡ false → texts xs ≡ []
 none_left [] e = refl
-none_left (x ∷ xs) e = absurd (true≢false e)
+none_left (x ∷ xs) e = cc
 
 pub some_left : (xs : List CellShown) → is_some_left xs ≡ true → length (texts xs) ≡ length (texts (others xs)) + 1
-some_left [] e = absurd (true≢false (sym e))
+some_left [] e = cc
 some_left (x ∷ xs) e = omega arith
 
 pub texts_placed : (at : ℕ) (ts : List (List ℕ)) → texts (placed at ts) ≡ ts

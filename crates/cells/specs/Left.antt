@@ -2,6 +2,8 @@
 use Rattle.std.specs.Prelude.{◌≡◌, ℕ, Bool, true, false, List, [], ◌∷◌, drop, Some, None, Option}
 use Rattle.cells.specs.Cells.{lines, cells, placed, CellShown}
 use Rattle.cells.specs.declared.line.LineCells.{LineCells}
+use Rattle.cells.specs.declared.line.Next.TheVariants.{Cell, Line}
+use Rattle.cells.specs.declared.line.Next.{Next}
 
 abbrev pub first : {X : Type 0} → List X → Option X
 first [] = None
@@ -25,21 +27,23 @@ abbrev pub open_lines : List ℕ → List (List ℕ)
 open_lines [] = [] ∷ []
 open_lines (b ∷ bs) = lines (b ∷ bs)
 
-abbrev pub texts_at : Bool → List ℕ → List (List ℕ)
-texts_at true bs = first_cells (open_lines bs)
-texts_at false bs = []
+-- the cells that are left, with their places, where this comes next
+abbrev pub cells_at : Next → List ℕ → List CellShown
+cells_at (Cell at) bs = placed at (first_cells (open_lines (drop at bs)))
+cells_at (Line at) bs = []
 
-abbrev pub after_at : Bool → List ℕ → List (List ℕ)
-after_at true bs = others (open_lines bs)
-after_at false bs = lines bs
+-- the lines after them
+abbrev pub after_at : Next → List ℕ → List (List ℕ)
+after_at (Cell at) bs = others (open_lines (drop at bs))
+after_at (Line at) bs = lines (drop at bs)
 
 -- the cells that are left of the line
 abbrev pub cells_left : LineCells → List CellShown
-cells_left s = placed s.at (texts_at s.open (drop s.at s.bytes.now))
+cells_left s = cells_at s.next s.bytes.now
 
 -- the lines after it
 abbrev pub lines_after : LineCells → List (List ℕ)
-lines_after s = after_at s.open (drop s.at s.bytes.now)
+lines_after s = after_at s.next s.bytes.now
 
 -- the bytes and the lines after this one stay
 pub record SameSheet (s t : LineCells) : Type 0 where

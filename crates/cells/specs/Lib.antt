@@ -3,4 +3,5 @@ pub mod Numbers
 pub mod Cells
 pub mod Scans
 pub mod Shown
+pub mod Places
 pub mod Left

@@ -11,10 +11,10 @@ abbrev pub front : List ℕ → List ℕ
 front [] = []
 front (b ∷ bs) = cond (is_stop b) [] (b ∷ front bs)
 
--- len digits stand at a place and write value, and the cell has no more of them, or they are ten
-pub record RunOf (bs : List ℕ) (at len value : ℕ) : Type 0 where
-  pub within : at + len ≤ length bs
+-- the first len bytes are digits and write value, and the cell has no more of them, or they are ten
+pub record RunOf (bs : List ℕ) (len value : ℕ) : Type 0 where
+  pub within : len ≤ length bs
   pub few : len ≤ most_digits
-  pub long : length (front (drop at bs)) ≡ len + length (front (drop (at + len) bs))
-  pub same : digits_after value (front (drop (at + len) bs)) ≡ digits_after 0 (front (drop at bs))
-  pub stops : len < most_digits → at + len < length bs → is_digit (slice_index bs (at + len)) ≡ false
+  pub long : length (front bs) ≡ len + length (front (drop len bs))
+  pub same : digits_after value (front (drop len bs)) ≡ digits_after 0 (front bs)
+  pub stops : len < most_digits → len < length bs → is_digit (slice_index bs len) ≡ false

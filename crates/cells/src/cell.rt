@@ -1,5 +1,5 @@
 //! A cell as it is handed out: a number, empty, or other bytes.
-ghost use Rattle.cells.specs.Shown.{shown};
+ghost use Rattle.cells.specs.Shown.{shown, bytes_of};
 ghost use Rattle.std.specs.Prelude.{◌≡◌};
 
 /// The bytes of a cell, lent by the sheet, and where they stand in it.
@@ -7,7 +7,6 @@ ghost use Rattle.std.specs.Prelude.{◌≡◌};
 pub struct CellBytes<'a> {
     pub bytes: &'a [u8],
     pub start: usize,
-    pub len: usize,
 }
 
 #[derive(Clone, Copy)]
@@ -21,25 +20,28 @@ pub enum Cell<'a> {
 }
 
 impl<'a> Cell<'a> {
+    /// The bytes of the cell and their place, whatever they mean.
+    fn place(self) -> CellBytes<'a>
+        ensures answer { result ≡ bytes_of self.entry }
+    {
+        match self {
+            Cell::Number(at, _) => at,
+            Cell::Empty(at) => at,
+            Cell::Other(at) => at,
+        }
+    }
+
     /// The bytes of the cell.
     pub fn bytes(self) -> &'a [u8]
         ensures answer { result.now ≡ (shown self.entry).bytes }
     {
-        match self {
-            Cell::Number(at, _) => at.bytes,
-            Cell::Empty(at) => at.bytes,
-            Cell::Other(at) => at.bytes,
-        }
+        self.place().bytes
     }
 
     /// How many bytes the cell has.
     pub fn len(self) -> usize
         ensures answer { result ≡ (shown self.entry).len }
     {
-        match self {
-            Cell::Number(at, _) => at.len,
-            Cell::Empty(at) => at.len,
-            Cell::Other(at) => at.len,
-        }
+        self.place().bytes.len()
     }
 }

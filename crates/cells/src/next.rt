@@ -1,83 +1,89 @@
 //! The cells of a line, taken one by one.
-ghost use Rattle.std.specs.Prelude.{◌≡◌, ℕ, ◌+◌, ◌≤◌, not, ◌&&◌, ◌||◌, ltb, length, drop, if◌then◌else◌, ◌==◌, nat_lt, slice_index};
-ghost use Rattle.cells.specs.Cells.{cell_at, comma, lines, placed};
+ghost use Rattle.std.specs.Prelude.{◌≡◌, ℕ, ◌≤◌, ◌&&◌, length, drop, ◌==◌, nat_lt, slice_index};
+ghost use Rattle.cells.specs.Cells.{cell_at, lines, placed};
 ghost use Rattle.cells.specs.Left.{first, others, first_cells, cells_left, lines_after, is_some_left, SameSheet};
+ghost use Rattle.cells.specs.Places.{next_at, start_of};
 ghost use Rattle.cells.specs.Scans.{front};
 ghost use Rattle.cells.specs.Shown.{shown};
 ghost use Rattle.std.specs.Option.{option_map};
 
 use crate::cell::{Cell, CellBytes};
-use crate::line::LineCells;
-use crate::scan::{cell_end, digit_run};
+use crate::line::{LineCells, Next};
+use crate::scan::{cell_len, digit_run, is_stop};
 
-/// Are `len` bytes a number, of which `digits` are digits at the start and `first` is the first byte?
-fn is_number(len: usize, digits: usize, first: u8) -> bool
-    ensures answer { result ≡ (digits == len && (len == 1 || not (first == 48))) }
+/// Does the cell that the bytes start with end after `len` bytes, if not before?
+fn ends_at(rest: &[u8], len: usize) -> bool
+    ensures answer { result ≡ (length (front (drop len rest.now)) == 0) }
 {
-    digits == len && (len == 1 || first != b'0')
+    match rest.get(len) {
+        Some(byte) => is_stop(*byte),
+        None => true,
+    }
 }
 
-/// The cell whose bytes start at `at`.
-fn cell_from<'a>(bytes: &'a [u8], at: usize) -> Cell<'a>
-    requires { at ≤ length bytes.now }
-    ensures answer { shown result ≡ cell_at at (front (drop at bytes.now)) }
+/// Do the bytes start with a 0 that is not all of them?
+fn has_leading_zero(bytes: &[u8]) -> bool
+    ensures answer { result ≡ (slice_index bytes.now 0 == 48 && nat_lt 1 (length bytes.now)) }
 {
-    let run = digit_run(bytes, at);
-    let end = cell_end(bytes, at + run.len);
+    matches!(bytes, [b'0', _, ..])
+}
+
+/// The cell that the bytes start with; they start at `start` in the sheet.
+fn cell_from(rest: &[u8], start: usize) -> Cell
+    ensures answer { shown result ≡ cell_at start (front rest.now) }
+{
+    let run = digit_run(rest);
+    if !ends_at(rest, run.len) {
+        return Cell::Other(CellBytes {
+            bytes: &rest[..cell_len(rest)],
+            start,
+        });
+    }
     let here = CellBytes {
-        bytes: &bytes[at..end],
-        start: at,
-        len: end - at,
+        bytes: &rest[..run.len],
+        start,
     };
-    if end == at {
+    if run.len == 0 {
         return Cell::Empty(here);
     }
-    if is_number(end - at, run.len, bytes[at]) {
-        return Cell::Number(here, run.value);
+    if has_leading_zero(here.bytes) {
+        return Cell::Other(here);
     }
-    Cell::Other(here)
+    Cell::Number(here, run.value)
 }
 
-/// Does a byte stand at `at`?
-fn is_inside(bytes: &[u8], at: usize) -> bool
-    ensures answer { result ≡ nat_lt at (length bytes.now) }
+/// What comes after the cell that ends at `end`.
+fn after(bytes: &[u8], end: usize) -> Next
+    ensures answer { result ≡ next_at bytes.now end }
 {
-    at < bytes.len()
+    match bytes.get(end) {
+        Some(b',') => Next::Cell(end + 1),
+        Some(_) => Next::Line(end + 1),
+        None => Next::Line(bytes.len()),
+    }
 }
 
-/// Does a comma stand at `end`?
-fn is_comma(bytes: &[u8], end: usize) -> bool
-    ensures answer { result ≡ ((slice_index bytes.now end) == comma) }
+/// What comes first in a line that starts at `at`. Past the end of the bytes there is no line, and no cell.
+fn start_of(bytes: &[u8], at: usize) -> Next
+    ensures answer { result ≡ start_of bytes.now at }
 {
-    end < bytes.len() && bytes[end] == b','
-}
-
-/// The place after the byte that ends a cell, or the end of the bytes.
-fn past(bytes: &[u8], end: usize) -> usize
-    requires { end ≤ length bytes.now }
-    ensures answer { result ≡ (if ltb end (length bytes.now) then end + 1 else end) }
-{
-    if end < bytes.len() { end + 1 } else { end }
+    if at < bytes.len() {
+        Next::Cell(at)
+    } else {
+        Next::Line(bytes.len())
+    }
 }
 
 impl<'a> LineCells<'a> {
-    /// The cells of the line that starts at `at`. Past the end of the bytes there is no line, and no cell.
+    /// The cells of the line that starts at `at`.
     pub fn new(bytes: &'a [u8], at: usize) -> LineCells<'a>
         ensures answer { cells_left result ≡ placed at (first_cells (lines (drop at bytes.now))) }
         ensures after { lines_after result ≡ others (lines (drop at bytes.now)) }
         ensures same { result.bytes.now ≡ bytes.now }
     {
-        if is_inside(bytes, at) {
-            return LineCells {
-                bytes,
-                at,
-                open: true,
-            };
-        }
         LineCells {
             bytes,
-            at: bytes.len(),
-            open: false,
+            next: start_of(bytes, at),
         }
     }
 
@@ -85,8 +91,7 @@ impl<'a> LineCells<'a> {
     pub fn has_cell(&self) -> bool
         ensures answer { result ≡ is_some_left (cells_left self.now) }
     {
-        let open = self.open;
-        open
+        matches!(self.next, Next::Cell(_))
     }
 
     /// Takes the next cell of the line.
@@ -95,26 +100,26 @@ impl<'a> LineCells<'a> {
         ensures after { cells_left self.new ≡ others (cells_left self.old) }
         ensures same { SameSheet self.old self.new }
     {
-        if !self.open {
+        let Next::Cell(at) = self.next else {
             return None;
-        }
-        let bytes = self.bytes;
-        let at = self.at;
-        let cell = cell_from(bytes, at);
-        let end = at + cell.len();
-        self.open = is_comma(bytes, end);
-        self.at = past(bytes, end);
+        };
+        let cell = cell_from(&self.bytes[at..], at);
+        self.next = after(self.bytes, at + cell.len());
         Some(cell)
     }
+
     /// Where the next line starts.
     pub fn next_line(mut self) -> usize
         ensures answer { lines (drop result self.entry.bytes.now) ≡ lines_after self.entry }
         ensures within { result ≤ length self.entry.bytes.now }
     {
-        while self.has_cell() {
-            let _cell = self.next_cell();
+        loop {
+            match self.next {
+                Next::Cell(_) => {
+                    let _cell = self.next_cell();
+                }
+                Next::Line(at) => return at,
+            }
         }
-        let next = self.at;
-        next
     }
 }
