@@ -1,5 +1,6 @@
 -- Numbers written one after another into a place for so many. Assumes nothing.
 use Rattle.std.specs.Prelude.{◌≡◌, ℕ, ◌+◌, min, cond, List, [], ◌∷◌, length, ℤ, pos, negsuc, Ok, Err, Result, nat_lt, slice_index, slice_set}
+use Rattle.host_calls.specs.declared.room.Room.{Room as RoomHeld}
 use Rattle.sheet_kinds.specs.Faults.{fault_number, fault_spot}
 use Rattle.sheet_kinds.specs.declared.fault.SheetFault.{SheetFault}
 use Rattle.sheet_kinds.specs.declared.readings.ReadingNumbers.{ReadingNumbers}
@@ -25,6 +26,14 @@ put_rows numbers o (v ∷ vs) = put_rows numbers (put_numbers o (numbers v)) vs
 
 abbrev pub room_at : {A : Type 0} → List A → ℕ → Room A
 room_at held at = record { held = held; at = at }
+
+-- the numbers that stand in a room, and where the next one goes
+abbrev pub so_far : {A : Type 0} → RoomHeld A → Room A
+so_far o = room_at o.into.now o.at
+
+-- both are rooms in one place that was lent
+abbrev pub SamePlace : {A : Type 0} → RoomHeld A → RoomHeld A → Type 0
+SamePlace o p = p.into.ghost_name ≡ o.into.ghost_name
 
 -- how many numbers were written, or -1 for a fault
 abbrev pub answered : Result ℕ SheetFault → ℤ

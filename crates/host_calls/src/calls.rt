@@ -1,11 +1,11 @@
 //! Calls on a pool, given and answered as plain numbers.
 ghost use Rattle.host_calls.specs.Called.{Performed, answer_numbers, coded_call, lending, record_numbers};
-ghost use Rattle.host_calls.specs.Filled.{put_numbers, put_rows, room_at};
+ghost use Rattle.host_calls.specs.Filled.{put_numbers, put_rows, SamePlace, so_far};
 ghost use Rattle.journal.specs.Deeds.{deed};
 ghost use Rattle.journal.specs.Words.{accepted, closed_by};
 ghost use Rattle.std.specs.Prelude.{◌≡◌, ◌&&◌};
 
-use crate::room::put;
+use crate::room::{Room, held};
 use day::Record;
 use house::house;
 use journal::{Answer, Call, begin, perform};
@@ -16,20 +16,14 @@ use tariff::Tariff;
 /// The numbers of a call: its code, and five that it may need.
 const NUMBERS: usize = 6;
 
-/// The most that is answered for a count.
-const MOST_COUNT: usize = 9_223_372_036_854_775_807;
-
 /// So many records are lent, none where the number is below 0.
 fn lent(room: i64) -> usize
     ensures answer { result ≡ lending room }
 {
-    match usize::try_from(room) {
-        Ok(room) => room,
-        Err(_) => 0,
-    }
+    usize::try_from(room).unwrap_or(0)
 }
 
-/// The call of these numbers, none where no call has the code.
+/// The call of these numbers, none where no call has the code. The C interface gives a number for a call.
 fn call_of(code: i64, a: i64, b: i64, c: i64, d: i64, e: i64) -> Option<Call>
     ensures answer { result ≡ coded_call code a b c d e }
 {
@@ -68,56 +62,45 @@ fn call_of(code: i64, a: i64, b: i64, c: i64, d: i64, e: i64) -> Option<Call>
     }
 }
 
-/// The place after an answer: 0 for done, 1 and a member's number, 2 and a sum, 3 and a refusal's number.
-fn put_answer(into: &mut [i64], at: usize, answer: Answer) -> usize
-    ensures answer { put_numbers (room_at into.old at) (answer_numbers answer) ≡ room_at into.new result }
+/// Writes an answer: 0 for done, 1 and a member's number, 2 and a sum, 3 and a refusal's number.
+fn put_answer(room: &mut Room<i64>, answer: Answer)
+    ensures after { put_numbers (so_far room.old) (answer_numbers answer) ≡ so_far room.new }
+    ensures same { SamePlace room.old room.new }
 {
     let (sort, number) = match answer {
         Answer::Done => (0, 0),
-        Answer::Enrolled(member) => (1, member.min(MOST_COUNT) as i64),
+        Answer::Enrolled(member) => (1, held(member)),
         Answer::Sum(sum) => (2, sum.count()),
         Answer::Refused(refusal) => (3, refusal.number()),
     };
-    let at = put(into, at, sort);
-    put(into, at, number)
+    room.put(sort);
+    room.put(number);
 }
 
-/// The place after base, surcharge and line.
-fn put_record(into: &mut [i64], at: usize, of: &Record) -> usize
-    ensures answer { put_numbers (room_at into.old at) (record_numbers of.now) ≡ room_at into.new result }
+/// Writes base, surcharge and line.
+fn put_record(room: &mut Room<i64>, of: &Record)
+    ensures after { put_numbers (so_far room.old) (record_numbers of.now) ≡ so_far room.new }
+    ensures same { SamePlace room.old room.new }
 {
-    let at = put(into, at, of.base.count());
-    let at = put(into, at, of.surcharge.count());
-    put(into, at, of.line.count())
+    room.put(of.base.count());
+    room.put(of.surcharge.count());
+    room.put(of.line.count());
 }
 
-/// The place after the records, each as base, surcharge and line.
-fn put_records(into: &mut [i64], at: usize, records: &[Record]) -> usize
-    ensures answer { put_rows record_numbers (room_at into.old at) records.now ≡ room_at into.new result }
+/// Writes the records, each as base, surcharge and line.
+fn put_records(room: &mut Room<i64>, records: &[Record])
+    ensures after { put_rows record_numbers (so_far room.old) records.now ≡ so_far room.new }
+    ensures same { SamePlace room.old room.new }
 {
-    let mut at = at;
     for record in records {
-        at = put_record(into, at, record);
+        put_record(room, record);
     }
-    at
 }
 
 fn is_close(call: Call) -> bool
     ensures answer { result ≡ closed_by (deed call).marks }
 {
-    match call {
-        Call::Close { .. } => true,
-        Call::Enrol { .. }
-        | Call::Open { .. }
-        | Call::GridRow { .. }
-        | Call::Reading { .. }
-        | Call::Amount { .. }
-        | Call::DropDay
-        | Call::PayIn { .. }
-        | Call::PayOut { .. }
-        | Call::Account { .. }
-        | Call::Cash => false,
-    }
+    matches!(call, Call::Close { .. })
 }
 
 /// Whether a call with this answer closed a day.
@@ -130,23 +113,18 @@ fn closes(call: Call, answer: Answer) -> bool
     }
 }
 
-/// The place after the answer to a call, and after the records of the day that it closed.
-fn put_performed<T: Tariff, R: PartingRule>(
-    pool: &mut Pool<T, R>,
-    call: Call,
-    into: &mut [i64],
-    at: usize,
-) -> usize
-    ensures performed { Performed (T.Tariff.meaning pool.old.tariff) (R.PartingRule.shares pool.old.rule) call pool.old.book pool.new.book (room_at into.old at) (room_at into.new result) }
+/// Performs a call, and writes its answer, and the records of the day that it closed.
+fn put_performed<T: Tariff, R: PartingRule>(pool: &mut Pool<T, R>, call: Call, room: &mut Room<i64>)
+    ensures performed { Performed (T.Tariff.meaning pool.old.tariff) (R.PartingRule.shares pool.old.rule) call pool.old.book pool.new.book (so_far room.old) (so_far room.new) }
+    ensures same { SamePlace room.old room.new }
     ensures tariff { pool.new.tariff ≡ pool.old.tariff }
     ensures rule { pool.new.rule ≡ pool.old.rule }
 {
     let entry = perform(pool, call);
-    let at = put_answer(into, at, entry.answer);
+    put_answer(room, entry.answer);
     if closes(entry.call, entry.answer) {
-        return put_records(into, at, &entry.records);
+        put_records(room, &entry.records);
     }
-    at
 }
 
 /// Performs the calls on a new pool of the house pile and largest remainder, each given by six numbers: its
@@ -160,13 +138,12 @@ fn put_performed<T: Tariff, R: PartingRule>(
 #[unsafe(no_mangle)]
 pub extern "C" fn niszorgy_host_calls(calls: &[i64], into: &mut [i64]) -> i64 {
     let mut pool = begin(house(), LargestRemainder);
+    let mut room = Room::new(into);
     let (whole, _) = calls.as_chunks::<NUMBERS>();
-    let mut at = 0;
-    for numbers in whole {
-        let [code, a, b, c, d, e] = *numbers;
-        if let Some(call) = call_of(code, a, b, c, d, e) {
-            at = put_performed(&mut pool, call, into, at);
+    for [code, a, b, c, d, e] in whole {
+        if let Some(call) = call_of(*code, *a, *b, *c, *d, *e) {
+            put_performed(&mut pool, call, &mut room);
         }
     }
-    at.min(MOST_COUNT) as i64
+    held(room.at)
 }

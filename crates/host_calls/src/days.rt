@@ -11,10 +11,7 @@ const NOT_CLOSED: i64 = i64::MIN;
 
 /// A row's number, none where it is below 0 or does not fit.
 fn number(given: i64) -> Option<u32> {
-    match u32::try_from(given) {
-        Ok(number) => Some(number),
-        Err(_) => None,
-    }
+    u32::try_from(given).ok()
 }
 
 fn grid_entry(row: [i64; 2]) -> Option<GridEntry> {
@@ -36,22 +33,17 @@ fn reading_entry(row: [i64; 3]) -> Option<ReadingEntry> {
 fn grid_of(numbers: &[i64]) -> [Option<GridEntry>; BLOCKS] {
     let mut grid = [None; BLOCKS];
     let (rows, _) = numbers.as_chunks::<2>();
-    for block in 0..BLOCKS {
-        if block < rows.len() {
-            grid[block] = grid_entry(rows[block]);
-        }
+    for (entry, row) in grid.iter_mut().zip(rows) {
+        *entry = grid_entry(*row);
     }
     grid
 }
 
-/// The member of a kind, with its readings, as many as were given from the place on.
-fn member_of(kind: MemberKind, rows: &[[i64; 3]], from: usize) -> Member {
+/// The member of a kind, with as many readings as were given.
+fn member_of(kind: MemberKind, rows: &[[i64; 3]]) -> Member {
     let mut readings = [None; BLOCKS];
-    for block in 0..BLOCKS {
-        let at = from.wrapping_add(block);
-        if at < rows.len() {
-            readings[block] = reading_entry(rows[at]);
-        }
+    for (reading, row) in readings.iter_mut().zip(rows) {
+        *reading = reading_entry(*row);
     }
     Member {
         kind,
@@ -63,17 +55,13 @@ fn member_of(kind: MemberKind, rows: &[[i64; 3]], from: usize) -> Member {
 /// A member of each place, a buyer without readings where no kind was given.
 fn members_of(kinds: &[i64], numbers: &[i64]) -> [Member; MEMBERS] {
     let (rows, _) = numbers.as_chunks::<3>();
-    let buyer = MemberKind::Metered(Kind::Buyer);
-    let mut members = [Member {
-        kind: buyer,
-        amount: None,
-        readings: [None; BLOCKS],
-    }; MEMBERS];
-    for member in 0..MEMBERS {
-        if member < kinds.len() {
-            if let Some(kind) = MemberKind::from_number(kinds[member]) {
-                members[member] = member_of(kind, rows, member.wrapping_mul(BLOCKS));
-            }
+    let mut rest = rows;
+    let mut members = [member_of(MemberKind::Metered(Kind::Buyer), &[]); MEMBERS];
+    for (member, kind) in members.iter_mut().zip(kinds) {
+        let (own, after) = rest.split_at(BLOCKS.min(rest.len()));
+        rest = after;
+        if let Some(kind) = MemberKind::from_number(*kind) {
+            *member = member_of(kind, own);
         }
     }
     members
@@ -81,13 +69,12 @@ fn members_of(kinds: &[i64], numbers: &[i64]) -> [Member; MEMBERS] {
 
 /// The lines, each times its place from 1 on: alone they add to zero.
 fn weighed(records: &[Record]) -> i64 {
-    let mut sum = 0i64;
-    let mut place = 0i64;
-    for record in records {
-        place = place.wrapping_add(1);
-        sum = sum.wrapping_add(place.wrapping_mul(record.line.count()));
-    }
-    sum
+    records
+        .iter()
+        .zip(1i64..)
+        .fold(0i64, |sum, (record, place)| {
+            sum.wrapping_add(place.wrapping_mul(record.line.count()))
+        })
 }
 
 /// What the lines come to, none where the day cannot be closed.
@@ -102,10 +89,8 @@ fn close_once(
         surcharge: nothing,
         line: nothing,
     }; RECORDS];
-    match close_day(tariff, &LargestRemainder, grid, members, &mut records) {
-        Ok(()) => Some(weighed(&records)),
-        Err(_) => None,
-    }
+    close_day(tariff, &LargestRemainder, grid, members, &mut records).ok()?;
+    Some(weighed(&records))
 }
 
 /// Closes the day so many times, and adds up what its lines come to.
@@ -133,8 +118,5 @@ pub extern "C" fn niszorgy_host_close_days(
 ) -> i64 {
     let members = members_of(kinds, readings);
     let grid = grid_of(grid);
-    match close_again(&grid, &members, times) {
-        Some(sum) => sum,
-        None => NOT_CLOSED,
-    }
+    close_again(&grid, &members, times).unwrap_or(NOT_CLOSED)
 }
