@@ -71,7 +71,7 @@ fn members_of(kinds: &[i64], numbers: &[i64]) -> [Member; MEMBERS] {
     }; MEMBERS];
     for member in 0..MEMBERS {
         if member < kinds.len() {
-            if let Some(kind) = MemberKind::from_number(kinds[member]) {
+            if let Ok(kind) = MemberKind::try_from(kinds[member]) {
                 members[member] = member_of(kind, rows, member.wrapping_mul(BLOCKS));
             }
         }

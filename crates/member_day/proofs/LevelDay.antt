@@ -1,8 +1,11 @@
 -- A member metered as scheduled is charged nothing. Assumes nothing.
-use Rattle.std.proofs.Common.{◌≡◌, Bool, true, false, IfSome, Some, None, Option}
+use Rattle.std.proofs.Common.{◌≡◌, ℕ, ◌*◌, Bool, true, false, ℤ, pos, nat_abs, IfSome, Some, None, Option, refl, ap, ◌∙◌, mul-zero, arith}
 use Rattle.std.specs.Bool.{then_some}
 use Rattle.facts.specs.Facts.{Facts}
 use Rattle.facts.specs.declared.kinds.Kind.{Kind}
+use Rattle.facts.specs.declared.kinds.Kind.TheVariants.{Buyer, Seller, SolarWind}
+use Rattle.quantities.specs.declared.paise.Paise.{Paise}
+use Rattle.member_day.specs.Days.{surcharge_of}
 use Rattle.member_day.specs.Entries.{facts_at}
 use Rattle.member_day.specs.declared.entries.GridEntry.{GridEntry}
 use Rattle.member_day.specs.declared.entries.ReadingEntry.{ReadingEntry}
@@ -15,3 +18,11 @@ pub level_at : (k : Kind) (r : Option ReadingEntry) (g : Option GridEntry) (f : 
 level_at k None g f e level = cc
 level_at k (Some r) None f e level = cc
 level_at k (Some r) (Some g) f e level = level_when _ f _ e level
+
+surcharge_none : (k : Kind) (n : ℕ) (base : ℤ) → base ≡ pos 0 → surcharge_of k n base ≡ 0
+surcharge_none Buyer n base e = omega (arith, ap (λ z. n * nat_abs z) e, mul-zero n)
+surcharge_none Seller n base e = omega (arith, ap (λ z. n * nat_abs z) e, mul-zero n)
+surcharge_none SolarWind n base e = refl
+
+pub nothing_due : (k : Kind) (n : ℕ) (base surcharge : Paise) → surcharge.paise ≡ pos (surcharge_of k n base.paise) → base.paise ≡ pos 0 → (base.paise ≡ pos 0) × (surcharge.paise ≡ pos 0)
+nothing_due k n base surcharge s e = (e, s ∙ ap pos (surcharge_none k n base.paise e))
