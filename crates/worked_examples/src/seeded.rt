@@ -34,10 +34,10 @@ impl Generator {
         for weight in weights.iter_mut() {
             *weight = self.below(bound);
         }
-        if weights.iter().all(|weight| *weight == 0) {
-            if let Some(first) = weights.first_mut() {
-                *first = 1;
-            }
+        if weights.iter().all(|weight| *weight == 0)
+            && let Some(first) = weights.first_mut()
+        {
+            *first = 1;
         }
     }
 }
