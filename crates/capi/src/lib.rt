@@ -5,7 +5,7 @@ ghost use Rattle.capi.specs.HouseAnswer.{house_answer};
 ghost use Rattle.facts.specs.Refusals.{facts_from};
 ghost use Rattle.std.specs.Prelude.{◌≡◌};
 
-use facts::BlockFacts;
+use facts::{BlockFacts, FactsNumbers};
 use house::house_charge;
 
 /// A refusal's number is answered above this. No charge lies there.
@@ -25,8 +25,16 @@ pub extern "C" fn niszorgy_house_charge(
 ) -> i64
     ensures answer { result ≡ house_answer (facts_from kind scheduled metered available frequency price) }
 {
-    match BlockFacts::from_numbers(kind, scheduled, metered, available, frequency, price) {
-        Ok(facts) => house_charge(&facts).count(),
-        Err(refusal) => REFUSED + refusal.number(),
-    }
+    let numbers = FactsNumbers {
+        kind,
+        scheduled,
+        metered,
+        available,
+        hz100: frequency,
+        price,
+    };
+    BlockFacts::try_from(numbers).map_or_else(
+        |refusal| REFUSED + refusal.number(),
+        |facts| house_charge(&facts).count(),
+    )
 }

@@ -1,8 +1,8 @@
 //! A member with what was entered for the day.
-ghost use Rattle.day.specs.Members.{is_regional, member_kind_of, member_kind_number};
+ghost use Rattle.day.specs.Members.{IsMemberKindOf, is_regional, member_kind_of, member_kind_number};
 ghost use Rattle.std.specs.Prelude.{◌≡◌, pos, Some};
 
-use facts::Kind;
+use facts::{Kind, UnknownKind};
 use member_day::{BLOCKS, ReadingEntry};
 use quantities::Paise;
 
@@ -12,7 +12,7 @@ pub const MEMBERS: usize = 16;
 /// The number of the kind whose members have a regional amount.
 const REGIONAL: i64 = 4;
 
-#[derive(Clone, Copy)]
+#[derive(Clone, Copy, PartialEq, Eq)]
 pub enum MemberKind {
     /// Has a reading in each block.
     Metered(Kind),
@@ -20,26 +20,28 @@ pub enum MemberKind {
     Regional,
 }
 
-impl MemberKind {
+impl TryFrom<i64> for MemberKind {
+    type Error = UnknownKind;
+
+    ghost try_from_gives = { IsMemberKindOf };
+
     /// The kind of this number: 1 to 3 for those that are metered, 4 for a regional amount.
-    pub fn from_number(number: i64) -> Option<MemberKind>
-        ensures answer { result ≡ member_kind_of number }
+    fn try_from(number: i64) -> Result<MemberKind, UnknownKind>
+        ensures answer { IsMemberKindOf number result }
         ensures law { (k : MemberKind) → member_kind_of (pos (member_kind_number k)) ≡ Some k }
     {
-        if number == REGIONAL {
-            return Some(MemberKind::Regional);
+        match number {
+            REGIONAL => Ok(MemberKind::Regional),
+            _ => Kind::try_from(number).map(MemberKind::Metered),
         }
-        let kind = Kind::from_number(number)?;
-        Some(MemberKind::Metered(kind))
     }
+}
 
+impl MemberKind {
     pub(crate) fn is_regional(self) -> bool
         ensures answer { result ≡ is_regional self }
     {
-        match self {
-            MemberKind::Metered(_) => false,
-            MemberKind::Regional => true,
-        }
+        matches!(self, MemberKind::Regional)
     }
 }
 

@@ -14,7 +14,7 @@ pub struct BlockFacts {
 
 /// The numbers of a block as they are given. The frequency is in hundredths of a hertz, the price in
 /// tenths of a paisa per kWh.
-#[derive(Clone, Copy)]
+#[derive(Clone, Copy, Default)]
 pub struct FactsNumbers {
     pub kind: i64,
     pub scheduled: i64,

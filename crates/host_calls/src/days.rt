@@ -60,7 +60,7 @@ fn members_of(kinds: &[i64], numbers: &[i64]) -> [Member; MEMBERS] {
     for (member, kind) in members.iter_mut().zip(kinds) {
         let (own, after) = rest.split_at(BLOCKS.min(rest.len()));
         rest = after;
-        if let Some(kind) = MemberKind::from_number(*kind) {
+        if let Ok(kind) = MemberKind::try_from(*kind) {
             *member = member_of(kind, own);
         }
     }

@@ -1,12 +1,10 @@
 //! Counting runs: longest stretches of blocks whose deviations have one non-zero sign.
 ghost use Rattle.std.specs.Prelude.{◌≡◌, ◌+◌, ◌*◌, ◌^◌, ◌<◌, ◌≤◌, List, [], ◌∷◌, ◌++◌, replicate};
-ghost use Rattle.member_day.specs.Counts.{after_all, used};
 ghost use Rattle.member_day.specs.Runs.{runs};
 
 use crate::Direction;
 
 /// The runs of the blocks so far.
-// The room is no ghost field: each call needs room for its own blocks, so no clause would go.
 #[derive(Clone, Copy)]
 pub(crate) struct RunCount {
     /// What the runs that have ended count.
@@ -15,9 +13,12 @@ pub(crate) struct RunCount {
     length: u32,
     /// The direction of the last block.
     before: Direction,
+    ghost fits: { 7 * counted + length < 2 ^ 32 },
 }
 
 impl RunCount {
+    ghost use Rattle.member_day.specs.Counts.{after_all, used};
+
     /// Before the first block.
     #[tactic(auto, using(crate::proofs::RunLaws::leading_level))]
     pub(crate) fn new() -> RunCount
@@ -59,7 +60,6 @@ impl RunCount {
 
     /// The sum over the runs of a seventh of the length, rounded down.
     pub(crate) fn sevenths(&self) -> u32
-        requires { used self.now < 2 ^ 32 }
         ensures answer { result ≡ after_all self.now [] }
         ensures bound { 7 * result ≤ used self.now }
     {

@@ -79,9 +79,7 @@ impl Book {
         if self.opened {
             return Err(Refusal::WrongMoment);
         }
-        let Some(kind) = MemberKind::from_number(kind) else {
-            return Err(Refusal::WrongKind);
-        };
+        let kind = MemberKind::try_from(kind)?;
         let place = self.count;
         if MEMBERS <= place {
             return Err(Refusal::PoolFull);

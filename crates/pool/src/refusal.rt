@@ -2,6 +2,8 @@
 ghost use Rattle.pool.specs.Refusals.{refusal_number};
 ghost use Rattle.std.specs.Prelude.{◌≡◌, pos};
 
+use facts::UnknownKind;
+
 #[derive(Clone, Copy, PartialEq)]
 pub enum Refusal {
     /// Enrolling or opening while a day is open, or entering, closing or dropping while none is.
@@ -46,5 +48,15 @@ impl Refusal {
             Refusal::MoreThanDue => 10,
             Refusal::MoreThanCash => 11,
         }
+    }
+}
+
+impl From<UnknownKind> for Refusal {
+    ghost use Rattle.pool.specs.declared.refusal.Refusal.TheVariants.{WrongKind};
+
+    ghost from_gives = { λ _ refusal. refusal ≡ WrongKind };
+
+    fn from(_kind: UnknownKind) -> Refusal {
+        Self::WrongKind
     }
 }

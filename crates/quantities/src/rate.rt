@@ -7,6 +7,7 @@ use std::fmt;
 
 /// No rate beyond the limit exists. Other crates print a rate and cannot read its count: so no count
 /// of a rate becomes energy or money but by a named product.
+// No one type with Kwh over a limit: each rule would read a bare count for tenths and kWh.
 #[derive(Clone, Copy, PartialEq, Eq, PartialOrd, Ord)]
 pub struct Rate {
     pub(crate) tenths: u32,

@@ -7,6 +7,7 @@ use facts::BlockFacts;
 use quantities::Paise;
 
 /// One charge for each set of block facts. Nothing else counts, and no facts are refused.
+// No closure: each layer rests on the laws of the one below, and a closure has none.
 pub trait Tariff {
     ghost meaning: { Self → Facts → ℤ };
 

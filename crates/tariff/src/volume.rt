@@ -1,14 +1,15 @@
 //! The volume limit, on which ceiling and extra both rest.
 ghost use Rattle.facts.specs.Facts.{plain};
-ghost use Rattle.tariff.specs.Volume.{limit_by_schedule, volume_limit};
+ghost use Rattle.tariff.specs.Volume.{volume_limit};
 ghost use Rattle.std.specs.Prelude.{◌≡◌};
 
 use facts::BlockFacts;
 use quantities::Kwh;
 
-/// The limit that follows the scheduled energy.
-fn limit_by_schedule(facts: &BlockFacts) -> Kwh
-    ensures answer { result.kwh ≡ limit_by_schedule (plain facts.now) }
+/// How far a deviation may go before ceiling and extra apply: it follows the scheduled energy.
+#[tactic(auto, unfolding(crate::specs::Volume::volume_limit))]
+pub fn volume_limit(facts: &BlockFacts) -> Kwh
+    ensures answer { result.kwh ≡ volume_limit (plain facts.now) }
 {
     let scheduled = facts.scheduled();
     if scheduled <= Kwh::of::<10_000>() {
@@ -16,12 +17,4 @@ fn limit_by_schedule(facts: &BlockFacts) -> Kwh
     } else {
         scheduled.percent(12).whole().at_most(Kwh::of::<7_500>())
     }
-}
-
-/// How far a deviation may go before ceiling and extra apply.
-#[tactic(auto, unfolding(crate::specs::Volume::volume_limit))]
-pub fn volume_limit(facts: &BlockFacts) -> Kwh
-    ensures answer { result.kwh ≡ volume_limit (plain facts.now) }
-{
-    limit_by_schedule(facts)
 }

@@ -5,10 +5,11 @@ mod by_hand;
 mod seeded;
 mod sums;
 
-use by_hand::{bands_at, limit_at, rate_at, seller_at};
-use facts::BlockFacts;
+use by_hand::{PRICE, bands_at, limit_at, rate_at, seller_at};
+use facts::{BlockFacts, FactsNumbers, FactsRefusal};
 use member_day::worked_runs;
 use other_piles::unusual_charge;
+use std::fmt::Display;
 
 fn main(rt: HostRuntime) -> anyhow::Result<()> {
     run(&rt)
@@ -25,36 +26,60 @@ fn run(rt: &impl Print) -> anyhow::Result<()> {
     sums::from_seed(rt)
 }
 
-fn rates(rt: &impl Print) -> anyhow::Result<()> {
-    println!(rt; "Rates of the vector at price 4000")?;
-    for (hz100, by_hand) in [(4_984, 8_000), (4_999, 4_266), (5_004, 800), (5_005, 0)] {
-        let came = rate_at(hz100)?;
-        println!(rt; "frequency {hz100}: came {came}, by hand {by_hand}")?;
+/// Prints under a title what a function makes of each number, beside what was worked by hand.
+fn print_each<T, F>(
+    rt: &impl Print,
+    title: &str,
+    of: &str,
+    worked: F,
+    examples: &[(i64, i64)],
+) -> anyhow::Result<()>
+where
+    T: Display + Drop,
+    F: Fn(i64) -> Result<T, FactsRefusal>,
+    requires { F.IsAlwaysCallable worked }
+{
+    println!(rt; "{title}")?;
+    for (number, by_hand) in examples {
+        let came = worked(*number)?;
+        println!(rt; "{of} {number}: came {came}, by hand {by_hand}")?;
     }
     Ok(())
+}
+
+fn rates(rt: &impl Print) -> anyhow::Result<()> {
+    print_each(
+        rt,
+        "Rates of the vector at price 4000",
+        "frequency",
+        rate_at,
+        &[(4_984, 8_000), (4_999, 4_266), (5_004, 800), (5_005, 0)],
+    )
 }
 
 fn limits(rt: &impl Print) -> anyhow::Result<()> {
-    println!(rt; "Volume limits")?;
-    for (scheduled, by_hand) in [
-        (10_000, 1_250),
-        (10_001, 1_200),
-        (62_499, 7_499),
-        (62_500, 7_500),
-    ] {
-        let came = limit_at(scheduled)?;
-        println!(rt; "scheduled {scheduled}: came {came}, by hand {by_hand}")?;
-    }
-    Ok(())
+    print_each(
+        rt,
+        "Volume limits",
+        "scheduled",
+        limit_at,
+        &[
+            (10_000, 1_250),
+            (10_001, 1_200),
+            (62_499, 7_499),
+            (62_500, 7_500),
+        ],
+    )
 }
 
 fn bands(rt: &impl Print) -> anyhow::Result<()> {
-    println!(rt; "Bands at 1000 available")?;
-    for (deviation, by_hand) in [(150, 0), (151, 50), (400, 22_500)] {
-        let came = bands_at(deviation)?;
-        println!(rt; "deviation {deviation}: came {came}, by hand {by_hand}")?;
-    }
-    Ok(())
+    print_each(
+        rt,
+        "Bands at 1000 available",
+        "deviation",
+        bands_at,
+        &[(150, 0), (151, 50), (400, 22_500)],
+    )
 }
 
 fn sellers(rt: &impl Print) -> anyhow::Result<()> {
@@ -80,7 +105,14 @@ fn another_pile(rt: &impl Print) -> anyhow::Result<()> {
         (3, 1_000, 400, 1_000, 5_010),
         (3, 1_000, 1_600, 1_000, 5_010),
     ] {
-        let facts = BlockFacts::from_numbers(kind, scheduled, metered, available, hz100, 4_000)?;
+        let facts = BlockFacts::try_from(FactsNumbers {
+            kind,
+            scheduled,
+            metered,
+            available,
+            hz100,
+            price: PRICE,
+        })?;
         let came = unusual_charge(&facts);
         println!(rt;
             "kind {kind}, scheduled {scheduled}, metered {metered}, available {available}, frequency {hz100}: came {came}"

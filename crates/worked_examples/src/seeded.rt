@@ -31,13 +31,13 @@ impl Generator {
     pub fn fill(&mut self, weights: &mut [u64], bound: u64)
         requires { 0 < bound }
     {
-        let mut all_zero = true;
         for weight in weights.iter_mut() {
             *weight = self.below(bound);
-            all_zero = all_zero && *weight == 0;
         }
-        if all_zero && !weights.is_empty() {
-            weights[0] = 1;
+        if weights.iter().all(|weight| *weight == 0)
+            && let Some(first) = weights.first_mut()
+        {
+            *first = 1;
         }
     }
 }

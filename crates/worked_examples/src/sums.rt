@@ -36,11 +36,12 @@ fn print_sum(
 fn part_and_print(rt: &impl Print, amount: u64, weights: &[u64]) -> anyhow::Result<()>
     requires { length weights.now ≤ 16 }
 {
+    // Fixed buffers, since no memory is taken from the heap.
     let count = weights.len();
     let mut first = [0; MOST_WEIGHTS];
-    let largest = &mut first[0..count];
+    let largest = &mut first[..count];
     let mut second = [0; MOST_WEIGHTS];
-    let running = &mut second[0..count];
+    let running = &mut second[..count];
     part_if_asked(&LargestRemainder, amount, weights, largest)?;
     part_if_asked(&Running, amount, weights, running)?;
     print_sum(rt, amount, weights, largest, running)
@@ -73,7 +74,7 @@ fn from_draws(rt: &impl Print, draws: &mut Generator) -> anyhow::Result<()> {
     let count = 1 + draws.below(MOST_WEIGHTS as u64) as usize;
     let bound = [2, 100, 1_000_000, 187_500_001][draws.below(4) as usize];
     let mut buffer = [0; MOST_WEIGHTS];
-    let weights = &mut buffer[0..count];
+    let weights = &mut buffer[..count];
     draws.fill(weights, bound);
     let amount = draws.below(3_000_000_001);
     part_and_print(rt, amount, weights)
