@@ -1,7 +1,7 @@
 //! What a member's day comes to.
 use quantities::Paise;
 
-#[derive(Clone, Copy)]
+#[derive(Clone, Copy, Default)]
 pub struct Due {
     /// The sum of the block charges.
     pub base: Paise,
