@@ -8,24 +8,19 @@ ghost use Rattle.day.specs.declared.unclosed.Unclosed.TheVariants.{Missing, Shor
 ghost use Rattle.sharing.specs.Shares.{too_much};
 
 use crate::dues::write_dues;
-use crate::entries::{all_entered, all_given};
 use crate::write::write_records;
-use crate::{MEMBERS, Member, RECORDS, Record, Unclosed};
-use member_day::{BLOCKS, Due, GridEntry};
+use crate::{DayEntries, MEMBERS, RECORDS, Record, Unclosed};
+use member_day::Due;
 use parting::PartingRule;
 use quantities::Paise;
 use sharing::{Charge, share_out};
 use tariff::Tariff;
 
 /// What a day without room is refused with: a missing entry comes first.
-fn without_room<T: Tariff>(
-    tariff: &T,
-    grid: &[Option<GridEntry>; BLOCKS],
-    members: &[Member],
-) -> Unclosed
-    ensures answer { result ≡ (if all_entered grid.now members.now then Short else Missing) }
+fn without_room<T: Tariff>(tariff: &T, entries: &DayEntries) -> Unclosed
+    ensures answer { result ≡ (if all_entered entries.now.grid.now entries.now.members.now then Short else Missing) }
 {
-    if all_entered(tariff, grid, members) {
+    if entries.all_entered(tariff) {
         Unclosed::Short
     } else {
         Unclosed::Missing
@@ -36,52 +31,26 @@ fn without_room<T: Tariff>(
 fn close_with_room<T: Tariff, R: PartingRule>(
     tariff: &T,
     rule: &R,
-    grid: &[Option<GridEntry>; BLOCKS],
-    members: &[Member],
+    entries: &DayEntries,
     records: &mut [Record],
 ) -> Result<(), Unclosed>
-    requires few { length members.now ≤ most_members }
+    requires few { length entries.now.members.now ≤ most_members }
     requires room { record_count ≤ length records.old }
-    ensures answer { result ≡ (if all_entered grid.now members.now then (if too_much (charges_of (T.Tariff.meaning tariff.now) grid.now members.now) then Err TooMuch else Ok tt) else Err Missing) }
-    ensures records { records.new ≡ (if is_ok result then day_records (T.Tariff.meaning tariff.now) (R.PartingRule.shares rule.now) grid.now members.now ++ drop record_count records.old else records.old) }
+    ensures answer { result ≡ (if all_entered entries.now.grid.now entries.now.members.now then (if too_much (charges_of (T.Tariff.meaning tariff.now) entries.now.grid.now entries.now.members.now) then Err TooMuch else Ok tt) else Err Missing) }
+    ensures records { records.new ≡ (if is_ok result then day_records (T.Tariff.meaning tariff.now) (R.PartingRule.shares rule.now) entries.now.grid.now entries.now.members.now ++ drop record_count records.old else records.old) }
 {
-    let count = members.len();
-    let mut dues = [Due {
-        base: Paise::NOTHING,
-        surcharge: Paise::NOTHING,
-    }; MEMBERS];
+    // Three tables of one length, since `share_out` takes a slice of charges and one of lines.
+    let count = entries.members.len();
+    let mut dues = [Due::default(); MEMBERS];
     let dues = &mut dues[0..count];
-    let mut charges = [Charge {
-        fixed: false,
-        sum: Paise::NOTHING,
-    }; MEMBERS];
+    let mut charges = [Charge::default(); MEMBERS];
     let charges = &mut charges[0..count];
     let mut lines = [Paise::NOTHING; MEMBERS];
     let lines = &mut lines[0..count];
-    write_dues(tariff, grid, members, dues, charges)?;
+    write_dues(tariff, entries, dues, charges)?;
     let reserve = share_out(rule, charges, lines)?;
     write_records(dues, lines, reserve, records);
     Ok(())
-}
-
-/// Closes any day, or refuses: what `close_day` answers and writes.
-fn close<T: Tariff, R: PartingRule>(
-    tariff: &T,
-    rule: &R,
-    grid: &[Option<GridEntry>; BLOCKS],
-    members: &[Member],
-    records: &mut [Record],
-) -> Result<(), Unclosed>
-    ensures answer { result ≡ closing (T.Tariff.meaning tariff.now) grid.now members.now (length records.old) }
-    ensures records { records.new ≡ (if is_ok result then day_records (T.Tariff.meaning tariff.now) (R.PartingRule.shares rule.now) grid.now members.now ++ drop record_count records.old else records.old) }
-{
-    if !all_given(grid) {
-        return Err(Unclosed::Missing);
-    }
-    if records.len() < RECORDS || MEMBERS < members.len() {
-        return Err(without_room(tariff, grid, members));
-    }
-    close_with_room(tariff, rule, grid, members, records)
 }
 
 /// Closes a day: fills its records, or refuses and alters none. A regional amount of any size is an
@@ -89,13 +58,18 @@ fn close<T: Tariff, R: PartingRule>(
 pub fn close_day<T: Tariff, R: PartingRule>(
     tariff: &T,
     rule: &R,
-    grid: &[Option<GridEntry>; BLOCKS],
-    members: &[Member],
+    entries: &DayEntries,
     records: &mut [Record],
 ) -> Result<(), Unclosed>
-    ensures answer { result ≡ closing (T.Tariff.meaning tariff.now) grid.now members.now (length records.old) }
-    ensures records { records.new ≡ (if is_ok result then day_records (T.Tariff.meaning tariff.now) (R.PartingRule.shares rule.now) grid.now members.now ++ drop record_count records.old else records.old) }
-    ensures law { is_ok result ≡ true → Settled members.now (take record_count records.new) }
+    ensures answer { result ≡ closing (T.Tariff.meaning tariff.now) entries.now.grid.now entries.now.members.now (length records.old) }
+    ensures records { records.new ≡ (if is_ok result then day_records (T.Tariff.meaning tariff.now) (R.PartingRule.shares rule.now) entries.now.grid.now entries.now.members.now ++ drop record_count records.old else records.old) }
+    ensures law { is_ok result ≡ true → Settled entries.now.members.now (take record_count records.new) }
 {
-    close(tariff, rule, grid, members, records)
+    if !entries.all_given() {
+        return Err(Unclosed::Missing);
+    }
+    if records.len() < RECORDS || MEMBERS < entries.members.len() {
+        return Err(without_room(tariff, entries));
+    }
+    close_with_room(tariff, rule, entries, records)
 }

@@ -1,36 +1,54 @@
-//! Whether every entry of a day is there.
-ghost use Rattle.day.specs.Dues.{all_entered, all_given};
-ghost use Rattle.std.specs.Prelude.{◌≡◌};
+//! What was entered for a day.
+ghost use Rattle.day.specs.Dues.{all_entered, all_given, complete, due_of, entered};
+ghost use Rattle.std.specs.Prelude.{◌≡◌, ◌+ℤ◌, IfSome, FitsSigned};
+ghost use Rattle.std.specs.Bool.{then_some};
+ghost use Rattle.std.specs.Int.{w64};
 
-use crate::Member;
-use crate::dues::member_due;
-use member_day::{BLOCKS, GridEntry};
+use crate::dues::regional_due;
+use crate::{Member, MemberKind};
+use member_day::{BLOCKS, Due, GridEntry, member_day};
 use tariff::Tariff;
 
-/// Whether every grid row is there.
-pub(crate) fn all_given(grid: &[Option<GridEntry>; BLOCKS]) -> bool
-    ensures answer { result ≡ all_given grid.now }
-{
-    for row in grid {
-        if row.is_none() {
-            return false;
-        }
-    }
-    true
+/// The grid rows and the members of a day.
+#[derive(Clone, Copy)]
+pub struct DayEntries<'a> {
+    pub grid: &'a [Option<GridEntry>; BLOCKS],
+    pub members: &'a [Member],
 }
 
-/// Whether every member's entries are there.
-pub(crate) fn all_entered<T: Tariff>(
-    tariff: &T,
-    grid: &[Option<GridEntry>; BLOCKS],
-    members: &[Member],
-) -> bool
-    ensures answer { result ≡ all_entered grid.now members.now }
-{
-    for member in members {
-        if member_due(tariff, grid, member).is_none() {
-            return false;
+impl DayEntries<'_> {
+    /// Base and surcharge of a member, none where an entry is missing or outside its limits.
+    pub(crate) fn due<T: Tariff>(&self, tariff: &T, member: &Member) -> Option<Due>
+        ensures answer { result ≡ then_some (entered self.now.grid.now member.now) (due_of (T.Tariff.meaning tariff.now) self.now.grid.now member.now) }
+        ensures fits { IfSome result (λ d. FitsSigned w64 (d.base.paise +ℤ d.surcharge.paise)) }
+    {
+        match member.kind {
+            MemberKind::Metered(kind) => member_day(tariff, kind, &member.readings, self.grid),
+            MemberKind::Regional => regional_due(member.amount),
         }
     }
-    true
+
+    /// Whether every grid row is there.
+    pub(crate) fn all_given(&self) -> bool
+        ensures answer { result ≡ all_given self.now.grid.now }
+    {
+        let grid = self.grid;
+        grid.iter().all(Option::is_some)
+    }
+
+    /// Whether a member's entries are there.
+    fn entered<T: Tariff>(&self, tariff: &T, member: &Member) -> bool
+        ensures answer { result ≡ entered self.now.grid.now member.now }
+    {
+        self.due(tariff, member).is_some()
+    }
+
+    /// Whether every member's entries are there.
+    pub(crate) fn all_entered<T: Tariff>(&self, tariff: &T) -> bool
+        ensures answer { result ≡ all_entered self.now.grid.now self.now.members.now }
+    {
+        self.members
+            .iter()
+            .all(|member| self.entered(tariff, member))
+    }
 }

@@ -12,6 +12,7 @@ mod write;
 
 pub use alike::alike_days;
 pub use close::close_day;
+pub use entries::DayEntries;
 pub use member::{MEMBERS, Member, MemberKind};
 pub use record::{RECORDS, Record};
 pub use unclosed::Unclosed;

@@ -11,17 +11,13 @@ fn record_at(dues: &[Due], lines: &[Paise], place: usize) -> Record
     requires { length lines.now ≡ length dues.now }
     ensures answer { result ≡ record_at dues.now lines.now place }
 {
-    if dues.len() <= place {
-        return Record {
-            base: Paise::NOTHING,
-            surcharge: Paise::NOTHING,
-            line: Paise::NOTHING,
-        };
-    }
-    Record {
-        base: dues[place].base,
-        surcharge: dues[place].surcharge,
-        line: lines[place],
+    match (dues.get(place), lines.get(place)) {
+        (Some(due), Some(line)) => Record {
+            base: due.base,
+            surcharge: due.surcharge,
+            line: *line,
+        },
+        _ => Record::default(),
     }
 }
 
@@ -31,12 +27,11 @@ pub(crate) fn write_records(dues: &[Due], lines: &[Paise], reserve: Paise, into:
     requires room { record_count ≤ length into.old }
     ensures after { into.new ≡ records_by dues.now lines.now reserve ++ drop record_count into.old }
 {
-    for place in 0..MEMBERS {
-        into[place] = record_at(dues, lines, place);
+    for (place, record) in into[0..MEMBERS].iter_mut().enumerate() {
+        *record = record_at(dues, lines, place);
     }
     into[MEMBERS] = Record {
-        base: Paise::NOTHING,
-        surcharge: Paise::NOTHING,
         line: reserve,
+        ..Record::default()
     };
 }

@@ -1,5 +1,5 @@
 -- A shared day is fair. Assumes nothing.
-use Rattle.std.proofs.Common.{◌≡◌, ℕ, zero, suc, ◌+◌, ◌*◌, ◌<◌, ◌≤◌, Bool, true, false, cond, not, ◌||◌, eqb, ltb, leb, List, [], ◌∷◌, map, length, get_or, ℤ, pos, negsuc, ◌-ℤ◌, ◌*ℤ◌, nat_abs, is_ok, Ok, Err, sum, Result, sym, refl, ap, ◌∙◌, subst, inl, inr, mul-le-mul, zero-mul, arith}
+use Rattle.std.proofs.Common.{◌≡◌, ℕ, zero, suc, ◌+◌, ◌*◌, ◌<◌, ◌≤◌, Bool, true, false, cond, ◌||◌, eqb, ltb, leb, List, [], ◌∷◌, map, length, get_or, ℤ, pos, negsuc, ◌-ℤ◌, ◌*ℤ◌, nat_abs, sum, sym, refl, ap, ◌∙◌, subst, inl, inr, mul-le-mul, zero-mul, arith}
 use Rattle.std.proofs.lemmas.List.{length-map, get_or-map}
 use Rattle.std.proofs.lemmas.Int.{ints}
 use Rattle.std.proofs.lemmas.List.Sums.{sum_by-cons, get_or-le-sum_by}
@@ -7,15 +7,13 @@ use Rattle.std.proofs.lemmas.Bool.{cases_lt, cases_Bool, and_parts, or_cases, le
 use Rattle.parting.specs.Rule.{Asked, Parted, apart, most_weights}
 use Rattle.quantities.specs.Limits.{most_money}
 use Rattle.quantities.specs.Money.{magnitude, money}
-use Rattle.quantities.specs.declared.paise.Paise.{Paise}
 use Rattle.sharing.specs.Laws.{together, charge_at, line_at, distance, Fair}
-use Rattle.sharing.specs.Shares.{shares_on, with_sign, line_of, lines_by, lines_of, reserve, no_room, too_much, sharing}
+use Rattle.sharing.specs.Shares.{shares_on, with_sign, line_of, lines_by, lines_of, reserve, too_much}
 use Rattle.sharing.specs.Sides.{on, fixed_on, weight_on, total, fixed_part, weights, adjustable, average_of, to_part, reaches, by_average, no_charge}
 use Rattle.sharing.specs.declared.charge.Charge.{Charge}
 use Rattle.quantities.specs.declared.side.Side.{Side}
 use Rattle.quantities.specs.declared.side.Side.TheVariants.{Payable, Receivable}
-use Rattle.sharing.specs.declared.charge.Unshared.{Unshared}
-use Rattle.sharing.specs.declared.charge.Unshared.TheVariants.{NoRoom, TooMuch}
+use Rattle.sharing.proofs.Lining.{length_lines, lines_at}
 use Rattle.sharing.proofs.Summing.{parts_of_total}
 
 -- ---- one line
@@ -59,19 +57,6 @@ near_receivable false (negsuc m) p zero T A h n = let z = zero-mul T in omega (a
 near_receivable false (negsuc m) p (suc r) T A h n = omega (arith, ints)
 
 -- ---- all lines
-
-length_lines : (cs : List Charge) (ps rs : List ℕ) → length ps ≡ length cs → length rs ≡ length cs → length (lines_by cs ps rs) ≡ length cs
-length_lines [] ps rs a b = refl
-length_lines (c ∷ cs) [] rs a b = a
-length_lines (c ∷ cs) (p ∷ ps) [] a b = b
-length_lines (c ∷ cs) (p ∷ ps) (r ∷ rs) a b = ap suc (length_lines cs ps rs (omega arith) (omega arith))
-
-lines_at : (cs : List Charge) (ps rs : List ℕ) (k : ℕ) → length ps ≡ length cs → length rs ≡ length cs → k < length cs → line_at (lines_by cs ps rs) k ≡ line_of (charge_at cs k) (get_or ps k 0) (get_or rs k 0)
-lines_at [] ps rs k a b h = absurd (omega arith)
-lines_at (c ∷ cs) [] rs k a b h = absurd (omega arith)
-lines_at (c ∷ cs) (p ∷ ps) [] k a b h = absurd (omega arith)
-lines_at (c ∷ cs) (p ∷ ps) (r ∷ rs) zero a b h = refl
-lines_at (c ∷ cs) (p ∷ ps) (r ∷ rs) (suc k) a b h = lines_at cs ps rs k (omega arith) (omega arith) (omega arith)
 
 -- who has no weight has no share
 abbrev Idle : Side → List Charge → List ℕ → Type 0
@@ -123,12 +108,6 @@ share_none (suc x) T w A h e =
 
 weight_at : (s : Side) (cs : List Charge) (k : ℕ) → k < length cs → get_or (weights s cs) k 0 ≡ weight_on s (charge_at cs k)
 weight_at s cs k h = get_or-map (weight_on s) cs k no_charge 0 h
-
--- a day that is not refused has room, and is not too much
-accepted : (b d : Bool) (x : Paise) → is_ok {E = Unshared} (cond b (Err NoRoom) (cond d (Err TooMuch) (Ok x))) ≡ true → (b ≡ false) × (d ≡ false)
-accepted true d x h = let z : ◌≡◌ {A = ℕ} 0 1 = cc in absurd (omega arith)
-accepted false true x h = let z : ◌≡◌ {A = ℕ} 0 1 = cc in absurd (omega arith)
-accepted false false x h = (refl, refl)
 
 module _ (g : ℕ → List ℕ → List ℕ) (fair : (amount : ℕ) (ws : List ℕ) → Asked amount ws → Parted amount ws (g amount ws)) where
   shared : (s : Side) (cs : List Charge) → length cs ≤ most_weights → total s cs ≤ most_money → average_of cs ≤ most_money → reaches s cs ≡ true → Shared s cs (shares_on g s cs)
@@ -227,10 +206,3 @@ module _ (g : ℕ → List ℕ → List ℕ) (fair : (amount : ℕ) (ws : List �
   fair_whole cs few small =
       let parts = or_parts (ltb most_money (total Payable cs)) (ltb most_money (total Receivable cs)) small in
       fair_day cs few (ltb-false most_money (total Payable cs) parts.0) (ltb-false most_money (total Receivable cs) parts.1)
-
-  pub fair_answer : (cs : List Charge) (places : ℕ) (ls old : List Paise) (r : Result Paise Unshared) → r ≡ sharing cs places → ls ≡ cond (is_ok r) (lines_of g cs) old → is_ok r ≡ true → Fair cs ls (reserve cs)
-  fair_answer cs places ls old r answer lines ok =
-      let e : ls ≡ lines_of g cs = lines ∙ cond-true (is_ok r) (lines_of g cs) old ok in
-      let fine = accepted (no_room cs places) (too_much cs) (reserve cs) (sym (ap is_ok answer) ∙ ok) in
-      let few = ltb-false most_weights (length cs) (or_parts (ltb most_weights (length cs)) (not (eqb places (length cs))) fine.0).0 in
-      subst (λ l. Fair cs l (reserve cs)) (sym e) (fair_whole cs few fine.1)

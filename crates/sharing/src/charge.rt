@@ -2,8 +2,9 @@
 use quantities::Paise;
 
 /// What a member owes for a day before it is shared out. A regional amount is fixed.
-#[derive(Clone, Copy)]
+#[derive(Clone, Copy, Default)]
 pub struct Charge {
+    // A flag and no enum, since both kinds have the sum and most readers want it alone.
     pub fixed: bool,
     pub sum: Paise,
 }

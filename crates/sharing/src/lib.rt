@@ -1,6 +1,7 @@
 //! Sharing out a day's charges: the members' lines and the reserve's.
 #![tactic(auto)]
 
+mod both_sides;
 mod charge;
 mod lines;
 mod share;

@@ -1,35 +1,56 @@
 //! The lines of a day: from the shares of both sides, or the charges as they are.
-ghost use Rattle.std.specs.Prelude.{◌≡◌, ◌≤◌, map, length, sum};
-ghost use Rattle.parting.specs.Rule.{most_weights};
+ghost use Rattle.std.specs.Prelude.{◌≡◌, ℕ, ◌<◌, ◌≤◌, true, map, length, sum, slice_index_or};
 ghost use Rattle.quantities.specs.Limits.{most_money};
 ghost use Rattle.quantities.specs.declared.side.Side.TheVariants.{Payable, Receivable};
 ghost use Rattle.sharing.specs.Shares.{line_of, lines_by, shares_on};
-ghost use Rattle.sharing.specs.Sides.{Summed, average_of};
+ghost use Rattle.sharing.specs.Sides.{average_of, by_average, fixed_part, no_charge, weights};
 
+use crate::both_sides::BothSides;
 use crate::charge::Charge;
-use crate::sides::{Sums, write_weights};
 use parting::{MOST_WEIGHTS, PartingRule};
 use quantities::{Paise, Side};
 
-/// Writes the shares of one side; the rule is not asked where nothing is adjustable.
-fn part_side<R: PartingRule>(
-    rule: &R,
-    side: Side,
-    charges: &[Charge],
-    sums: Sums,
-    average: u64,
-    into: &mut [u64],
-)
+/// Writes what `f` gives for each charge.
+fn write_each<X: Drop, F: Fn(Charge) -> X>(charges: &[Charge], into: &mut [X], f: F)
     requires room { length into.old ≡ length charges.now }
-    requires few { length charges.now ≤ most_weights }
-    requires sums { (Summed side charges.now sums) × (sums.fixed ≤ average) }
-    requires average { (average ≡ average_of charges.now) × (average ≤ most_money) }
-    ensures after { into.new ≡ shares_on (R.PartingRule.shares rule.now) side charges.now }
+    requires callable { F.IsAlwaysCallable f }
+    ensures room { length into.new ≡ length charges.now }
+    ensures after { (k : ℕ) (d : X) → k < length charges.now → F.post f (slice_index_or charges.now k no_charge) (slice_index_or into.new k d) }
+{
+    // By place, since a proof knows nothing of what is written through a `zip` with `iter_mut`.
+    for (place, charge) in charges.iter().enumerate() {
+        into[place] = f(*charge);
+    }
+}
+
+/// Writes the weights of a side.
+fn write_weights(side: Side, charges: &[Charge], into: &mut [u64])
+    requires room { length into.old ≡ length charges.now }
+    ensures after { into.new ≡ weights side charges.now }
+{
+    write_each(charges, into, |charge| charge.on(side).adjustable);
+}
+
+/// Writes the charges as lines.
+pub(crate) fn write_charges(charges: &[Charge], lines: &mut [Paise])
+    requires room { length lines.old ≡ length charges.now }
+    ensures after { lines.new ≡ map (λ c. c.sum) charges.now }
+{
+    write_each(charges, lines, |charge| charge.sum);
+}
+
+/// Writes the shares of one side; the rule is not asked where nothing is adjustable.
+fn part_side<R: PartingRule>(rule: &R, both: &BothSides, side: Side, into: &mut [u64])
+    requires room { length into.old ≡ length both.now.charges.now }
+    requires reached { fixed_part side both.now.charges.now ≤ average_of both.now.charges.now }
+    ensures after { into.new ≡ shares_on (R.PartingRule.shares rule.now) side both.now.charges.now }
     ensures bound { sum into.new ≤ most_money }
 {
+    let sums = both.sums(side);
+    let average = both.average();
     let mut weights = [0; MOST_WEIGHTS];
-    let weights = &mut weights[0..charges.len()];
-    write_weights(side, charges, weights);
+    let weights = &mut weights[0..both.charges.len()];
+    write_weights(side, both.charges, weights);
     if sums.adjustable == 0 {
         into.copy_from_slice(weights);
     } else {
@@ -60,43 +81,24 @@ fn write_lines(charges: &[Charge], payable: &[u64], receivable: &[u64], lines: &
     requires small { (sum payable.now ≤ most_money) × (sum receivable.now ≤ most_money) }
     ensures after { lines.new ≡ lines_by charges.now payable.now receivable.now }
 {
-    for (i, charge) in charges.iter().enumerate() {
-        lines[i] = line(*charge, payable[i], receivable[i]);
-    }
-}
-
-/// Writes the charges as lines.
-pub(crate) fn write_charges(charges: &[Charge], lines: &mut [Paise])
-    requires room { length lines.old ≡ length charges.now }
-    ensures after { lines.new ≡ map (λ c. c.sum) charges.now }
-{
-    for (i, charge) in charges.iter().enumerate() {
-        lines[i] = charge.sum;
+    // By place as in `write_each`; the shares lie in two tables since a rule writes a slice of numbers.
+    for (place, charge) in charges.iter().enumerate() {
+        lines[place] = line(*charge, payable[place], receivable[place]);
     }
 }
 
 /// Parts both sides and writes the lines from the shares.
-pub(crate) fn write_shared<R: PartingRule>(
-    rule: &R,
-    charges: &[Charge],
-    payable: Sums,
-    receivable: Sums,
-    average: u64,
-    lines: &mut [Paise],
-)
-    requires room { length lines.old ≡ length charges.now }
-    requires few { length charges.now ≤ most_weights }
-    requires average { average ≡ average_of charges.now }
-    requires payable { (Summed Payable charges.now payable) × (payable.fixed ≤ average) }
-    requires receivable { (Summed Receivable charges.now receivable) × (receivable.fixed ≤ average) }
-    ensures after { lines.new ≡ lines_by charges.now (shares_on (R.PartingRule.shares rule.now) Payable charges.now) (shares_on (R.PartingRule.shares rule.now) Receivable charges.now) }
+pub(crate) fn write_shared<R: PartingRule>(rule: &R, both: &BothSides, lines: &mut [Paise])
+    requires room { length lines.old ≡ length both.now.charges.now }
+    requires reached { by_average both.now.charges.now ≡ true }
+    ensures after { lines.new ≡ lines_by both.now.charges.now (shares_on (R.PartingRule.shares rule.now) Payable both.now.charges.now) (shares_on (R.PartingRule.shares rule.now) Receivable both.now.charges.now) }
 {
-    let count = charges.len();
+    let count = both.charges.len();
     let mut payables = [0; MOST_WEIGHTS];
     let pays = &mut payables[0..count];
-    part_side(rule, Side::Payable, charges, payable, average, pays);
+    part_side(rule, both, Side::Payable, pays);
     let mut receivables = [0; MOST_WEIGHTS];
     let gets = &mut receivables[0..count];
-    part_side(rule, Side::Receivable, charges, receivable, average, gets);
-    write_lines(charges, pays, gets, lines);
+    part_side(rule, both, Side::Receivable, gets);
+    write_lines(both.charges, pays, gets, lines);
 }

@@ -1,10 +1,18 @@
--- One record more, and the reserve's at the end.
-use Rattle.std.proofs.Common.{arith}
-use Rattle.day.proofs.Filling.{record_more, record_last}
+-- The places of the members, and the reserve's at the end.
+use Rattle.std.proofs.Common.{ap, ◌∙◌, arith}
+use Rattle.quantities.specs.Money.{money}
+use Rattle.quantities.specs.declared.paise.Paise.{Paise}
+use Rattle.day.specs.Records.{no_due}
+use Rattle.day.specs.declared.record.Record.{Record}
+use Rattle.day.proofs.Filling.{records_filled}
 use Rattle.day.proofs.write.write_records.Goals as goal
 
-pub loop-place-preserved : goal.loop-place-preserved
-loop-place-preserved c = record_more c.args.dues.now c.args.lines.now c.args.into.now c.loop-place.place c.loop-place.into c.record_at.result (omega arith) c.record_at.ensures.answer c.loop-place.invariant
+with_line : Paise → Paise → Paise → Record
+with_line base surcharge line = record { base = base; surcharge = surcharge; line = line }
 
 pub returns : goal.returns
-returns c = record { after = record_last c.args.dues.now c.args.lines.now c.args.into.now c.loop-place.into c.args.reserve c.loop-place.place (omega arith) (omega arith) c.loop-place.invariant }
+unfolding with_line
+returns c =
+    let zeros = c.default.ensures in
+    let last = ap (λ x. with_line (money x) c.default.result.surcharge c.args.reserve) zeros.0 ∙ ap (λ x. with_line no_due.base (money x) c.args.reserve) zeros.1.0 in
+    record { after = records_filled c.args.dues.now c.args.lines.now c.args.into.now c.loop-place.record-items _ c.args.reserve (omega arith) (omega arith) (λ k h. c.loop-place.invariant k (omega arith)) last }

@@ -1,16 +1,13 @@
--- One charge more.
-use Rattle.std.proofs.Common.{refl, arith}
+-- What is written for each charge is the list of it.
+use Rattle.std.proofs.Common.{rules}
 use Rattle.quantities.specs.declared.paise.Paise.{Paise}
 use Rattle.sharing.specs.Sides.{no_charge}
 use Rattle.sharing.specs.declared.charge.Charge.{Charge}
-use Rattle.sharing.proofs.Mapping.{map_step, map_end}
+use Rattle.sharing.proofs.Mapping.{mapped}
 use Rattle.sharing.proofs.lines.write_charges.Goals as goal
 
 abbrev the_sum : Charge → Paise
 the_sum c = c.sum
 
-pub loop-i-preserved : goal.loop-i-preserved
-loop-i-preserved c = map_step the_sum c.args.charges.now c.loop-i.lines c.loop-i.i no_charge _ c.loop-i-test.true (omega arith) refl c.loop-i.invariant
-
 pub returns : goal.returns
-returns c = record { after = map_end the_sum c.args.charges.now c.loop-i.lines c.loop-i.i (omega arith) c.loop-i-test.false c.loop-i.invariant }
+returns c = record { after = mapped (the_sum) c.args.charges.now _ no_charge c.write_each.ensures.room (λ k e h. let is = c.write_each.ensures.after k e h in search rules) }

@@ -1,19 +1,17 @@
--- One line more; a share is no more than all shares of its side.
-use Rattle.std.proofs.Common.{arith}
-use Rattle.std.proofs.lemmas.List.Sums.{get_or-le-sum_by}
-use Rattle.sharing.proofs.Lining.{lines_step, lines_end}
+-- A share is no more than all shares of its side, and the lines of all places are the lines. Assumes nothing.
+use Rattle.std.proofs.Common.{◌<◌, length, sym, ◌∙◌, pos, arith}
+use Rattle.std.proofs.lemmas.List.{ext_get_or}
+use Rattle.quantities.specs.Money.{money}
+use Rattle.sharing.proofs.Lining.{length_lines, lines_at}
 use Rattle.sharing.proofs.lines.write_lines.Goals as goal
 
-pub line-requires : goal.line-requires
-line-requires c =
-    let p = get_or-le-sum_by (λ x. x) c.args.payable.now c.loop-i.i 0 (omega arith) in
-    let r = get_or-le-sum_by (λ x. x) c.args.receivable.now c.loop-i.i 0 (omega arith) in
-    (omega arith, omega arith)
-
-pub loop-i-preserved : goal.loop-i-preserved
-loop-i-preserved c = lines_step c.args.charges.now c.args.payable.now c.args.receivable.now c.loop-i.lines c.loop-i.i c.line.result c.loop-i-test.true (omega arith) (omega arith) (omega arith) c.line.ensures.answer c.loop-i.invariant
-
 pub returns : goal.returns
-returns c = record {
-  after = lines_end c.args.charges.now c.args.payable.now c.args.receivable.now c.loop-i.lines c.loop-i.i c.loop-i-test.false (omega arith) (omega arith) (omega arith) c.loop-i.invariant;
-}
+returns c =
+    let cs = c.args.charges.now in
+    let ps = c.args.payable.now in
+    let rs = c.args.receivable.now in
+    record {
+      after = ext_get_or (money (pos 0)) c.loop-place.lines _ (sym (length_lines cs ps rs (omega arith) (omega arith) ∙ omega arith)) (λ k h.
+          let l : k < length cs = omega arith in
+          c.loop-place.invariant k (omega arith) ∙ sym (lines_at cs ps rs k (omega arith) (omega arith) l));
+    }

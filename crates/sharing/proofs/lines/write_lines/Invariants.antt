@@ -1,7 +1,8 @@
--- The lines so far are written.
-use Rattle.std.proofs.Common.{◌≡◌, take}
-use Rattle.sharing.specs.Shares.{lines_by}
+-- The lines so far are written. Assumes nothing.
+use Rattle.std.proofs.Common.{◌≡◌, ℕ, ◌<◌, get_or}
+use Rattle.sharing.specs.Laws.{charge_at, line_at}
+use Rattle.sharing.specs.Shares.{line_of}
 use Rattle.sharing.proofs.lines.write_lines.Given as goal
 
-abbrev pub invariant-loop-i : goal.invariant-loop-i
-invariant-loop-i l = take l.i l.lines ≡ lines_by (take l.i l.charges) (take l.i l.payable) (take l.i l.receivable)
+abbrev pub invariant-loop-place : goal.invariant-loop-place
+invariant-loop-place l = (k : ℕ) → k < l.place → line_at l.lines k ≡ line_of (charge_at l.charges k) (get_or l.payable k 0) (get_or l.receivable k 0)
