@@ -9,7 +9,7 @@ use crate::room::put;
 use sheet_kinds::{
     Grid, GridNumbers, MemberRow, Members, ReadingNumbers, Readings, SheetFault, SheetKind,
 };
-use sheets::UnnamedSheet;
+use sheets::NamedSheet;
 
 /// The most that is answered for a count.
 const MOST_COUNT: usize = 9_223_372_036_854_775_807;
@@ -63,9 +63,7 @@ fn read_into<R: Numbers + Drop, K: SheetKind<Row = R>>(
 ) -> Result<usize, SheetFault>
     ensures answer { map_ok (room_at into.new) result ≡ map_ok (put_rows (λ v. R.Numbers.listed (K.SheetKind.row_of (by_place v))) (room_at into.old 0)) (sheet_rows K.SheetKind.table bytes.now) }
 {
-    let unnamed = UnnamedSheet::begin(kind, bytes)?;
-    let columns = unnamed.check_names(kind)?;
-    let mut sheet = unnamed.named(columns);
+    let mut sheet = NamedSheet::open(kind, bytes)?;
     let mut at = 0;
     while let Some(row) = sheet.next_row(kind)? {
         at = row.put_all(into, at);
