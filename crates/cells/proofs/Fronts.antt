@@ -1,8 +1,7 @@
 -- The front of the bytes, and the digits that it starts with, byte after byte.
-use Rattle.std.proofs.Common.{◌≡◌, ℕ, suc, ◌+◌, ◌-◌, ◌*◌, ◌<◌, ◌≤◌, true, false, cond, ltb, List, [], ◌∷◌, length, get_or, take, drop, None, Some, refl, ap, ◌∙◌, suc-le-suc, zero-le, arith}
-use Rattle.cells.specs.Numbers.{is_digit, digits_after}
+use Rattle.std.proofs.Common.{◌≡◌, ℕ, suc, ◌+◌, ◌<◌, ◌≤◌, true, false, cond, ltb, List, [], ◌∷◌, length, get_or, take, drop, None, Some, refl, ap, ◌∙◌, suc-le-suc, zero-le, arith}
 use Rattle.cells.specs.Scans.{is_stop, front}
-use Rattle.std.proofs.lemmas.List.{drop_more, drop_all}
+use Rattle.std.proofs.lemmas.List.{drop_more}
 use Rattle.std.proofs.lemmas.List.Recursion.{is_position_or_len}
 use Rattle.std.specs.List.{position_or_len}
 use Rattle.std.specs.Option.{unwrap_or}
@@ -27,17 +26,6 @@ module _ (bs : List ℕ) (i : ℕ) (h : i < length bs) where
   -- the cell goes on
   pub front_on : is_stop (get_or bs i 0) ≡ false → front (drop i bs) ≡ get_or bs i 0 ∷ front (drop (i + 1) bs)
   front_on e = ap front (drop_more bs i 0 h) ∙ cond-false _ [] _ e
-
--- a digit ends no cell
-pub digit_goes_on : (b : ℕ) → is_digit b ≡ true → is_stop b ≡ false
-digit_goes_on b e = grind (arith, nat_tests)
-
-pub front_past : (bs : List ℕ) (i : ℕ) → length bs ≤ i → front (drop i bs) ≡ []
-front_past bs i h = ap front (drop_all i bs h)
-
--- one digit more
-pub digits_more : (v : ℕ) (b : ℕ) (bs : List ℕ) → is_digit b ≡ true → digits_after v (b ∷ bs) ≡ digits_after (v * 10 + (b - 48)) bs
-digits_more v b bs e = cond-true _ (digits_after (v * 10 + (b - 48)) bs) None e
 
 -- the place of the first stop, or the length
 pub front_place : (bs : List ℕ) → length (front bs) ≡ position_or_len is_stop bs

@@ -1,14 +1,13 @@
 -- A cell taken from the lines.
 use Rattle.std.proofs.Common.{◌≡◌, ℕ, suc, ◌+◌, ◌<◌, Bool, true, false, cond, eqb, List, [], ◌∷◌, length, get_or, drop, Some, sym, refl, ap, ◌∙◌, suc-le-suc, zero-le, arith, length-drop}
 use Rattle.cells.specs.Cells.{lines, onto, comma, line_feed, placed, cell_at}
-use Rattle.cells.specs.Left.{first_cells, open_lines, cells_at, after_at, first, others, is_some_left}
+use Rattle.cells.specs.Left.{first_cells, open_lines, cells_at, after_at, first, others}
 use Rattle.cells.specs.Places.{next_at}
 use Rattle.cells.specs.declared.line.Next.TheVariants.{Cell, Line}
 use Rattle.cells.specs.declared.line.Next.{Next}
 use Rattle.cells.specs.Scans.{front}
 use Rattle.std.proofs.lemmas.List.{drop-drop, drop_all, get_or-drop, get_or_past}
 use Rattle.std.proofs.lemmas.Bool.Decides.{nat_tests}
-use Rattle.std.proofs.lemmas.Bool.{true≢false}
 
 onto_some : (b : ℕ) (ls : List (List ℕ)) → 0 < length (onto b ls)
 onto_some b [] = suc-le-suc zero-le
@@ -115,7 +114,3 @@ some (b ∷ bs) h = refl
 -- where a byte is left, the line that is open is the first of the lines
 pub open_at : (bs : List ℕ) (at : ℕ) → at < length bs → open_lines (drop at bs) ≡ lines (drop at bs)
 open_at bs at h = some (drop at bs) (omega (arith, length-drop at bs))
-
-pub others_less : {X : Type 0} (xs : List X) → is_some_left xs ≡ true → length (others xs) < length xs
-others_less [] e = absurd (true≢false (sym e))
-others_less (x ∷ xs) e = omega arith

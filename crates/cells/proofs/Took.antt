@@ -1,5 +1,5 @@
 -- What a cell that was taken says of the cells that were left.
-use Rattle.std.proofs.Common.{◌≡◌, ℕ, ◌+◌, true, false, List, [], ◌∷◌, length, drop, Some, None, sym, refl, ap, ◌∙◌, arith}
+use Rattle.std.proofs.Common.{◌≡◌, ℕ, ◌+◌, false, List, [], ◌∷◌, length, drop, Some, sym, refl, ap, ◌∙◌}
 use Rattle.cells.specs.Cells.{CellShown, placed, texts}
 use Rattle.cells.specs.Left.{first, others, first_cells, open_lines, is_some_left, cells_at, cells_left}
 use Rattle.cells.specs.Numbers.{meaning}
@@ -29,21 +29,9 @@ shape_at (Line at) bs c ys e k = cc
 pub took : (s t : LineCells) (c : CellShown) → Some c ≡ first (cells_left s) → cells_left t ≡ others (cells_left s) → Took s t c
 took s t c e k = let p = shape_at s.next s.bytes.now c (cells_left t) e k in record { were = p.0; means = p.1 }
 
-none_first : (xs : List CellShown) → None ≡ first xs → texts xs ≡ []
-none_first [] e = refl
-none_first (x ∷ xs) e = cc
-
--- none was left to take
-pub took_none : (s : LineCells) → None ≡ first (cells_left s) → texts (cells_left s) ≡ []
-took_none s e = none_first (cells_left s) e
-
 pub none_left : (xs : List CellShown) → is_some_left xs ≡ false → texts xs ≡ []
 none_left [] e = refl
 none_left (x ∷ xs) e = cc
-
-pub some_left : (xs : List CellShown) → is_some_left xs ≡ true → length (texts xs) ≡ length (texts (others xs)) + 1
-some_left [] e = cc
-some_left (x ∷ xs) e = omega arith
 
 pub texts_placed : (at : ℕ) (ts : List (List ℕ)) → texts (placed at ts) ≡ ts
 texts_placed at [] = refl

@@ -9,7 +9,7 @@ use crate::room::{Room, held};
 use sheet_kinds::{
     Grid, GridNumbers, MemberRow, Members, ReadingNumbers, Readings, SheetFault, SheetKind,
 };
-use sheets::UnnamedSheet;
+use sheets::NamedSheet;
 
 /// A row as its numbers, in the order of the table of names, and a fault as sheet, line, cell and number.
 trait Numbers {
@@ -74,9 +74,7 @@ fn put_rows<R: Numbers + Drop, K: SheetKind<Row = R>>(
     ensures same { SamePlace room.old room.new }
     ensures answer { map_ok (λ _. so_far room.new) result ≡ map_ok (put_rows (λ v. R.Numbers.listed (K.SheetKind.row_of (by_place v))) (so_far room.old)) (sheet_rows K.SheetKind.table bytes.now) }
 {
-    let unnamed = UnnamedSheet::begin(kind, bytes)?;
-    let columns = unnamed.check_names(kind)?;
-    let mut sheet = unnamed.named(columns);
+    let mut sheet = NamedSheet::open(kind, bytes)?;
     while let Some(row) = sheet.next_row(kind)? {
         row.put_all(room);
     }

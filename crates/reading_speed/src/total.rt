@@ -6,7 +6,7 @@ ghost use Rattle.sheets.specs.Rows.{map_ok};
 ghost use Rattle.sheets.specs.Sheets.{sheet_rows};
 
 use sheet_kinds::{ReadingNumbers, Readings, SheetFault};
-use sheets::UnnamedSheet;
+use sheets::NamedSheet;
 
 /// How many rows there are, and the sum of their numbers modulo 2^64.
 #[derive(Clone, Copy)]
@@ -30,9 +30,7 @@ fn with_row(sum: u64, row: ReadingNumbers) -> u64
 pub fn read_total(bytes: &[u8]) -> Result<Total, SheetFault>
     ensures answer { result ≡ map_ok total_of (sheet_rows readings bytes.now) }
 {
-    let unnamed = UnnamedSheet::begin(&Readings, bytes)?;
-    let columns = unnamed.check_names(&Readings)?;
-    let mut sheet = unnamed.named(columns);
+    let mut sheet = NamedSheet::open(&Readings, bytes)?;
     let mut sum = 0;
     while let Some(row) = sheet.next_row(&Readings)? {
         sum = with_row(sum, row);

@@ -1,11 +1,8 @@
 //! Tests the three sheets of the folder where it is run, and prints the first fault, or how many rows each has.
 #![tactic(auto)]
 
-mod files;
-mod tested;
-
-use files::sheet_bytes;
-use tested::{Counts, test_sheets};
+use sheet_files::{Counts, Stop, print_stop, sheet_bytes, test_sheets};
+use std::io;
 
 fn main(rt: HostRuntime) -> anyhow::Result<()> {
     run(&rt)
@@ -16,19 +13,13 @@ fn run(rt: &HostRuntime) -> anyhow::Result<()> {
     let grid = sheet_bytes(rt, "grid.csv")?;
     let readings = sheet_bytes(rt, "readings.csv")?;
     match test_sheets(&members, &grid, &readings) {
-        Ok(counts) => print_counts(rt, counts),
-        Err(fault) => {
-            let spot = fault.spot();
-            let (sheet, line, cell) = (spot.sheet, spot.line, spot.cell);
-            let number = fault.number();
-            println!(rt; "sheet,line,cell,number")?;
-            println!(rt; "{sheet},{line},{cell},{number}")?;
-            Ok(())
-        }
+        Ok(counts) => print_counts(rt, counts)?,
+        Err(fault) => print_stop(rt, Stop::from(fault))?,
     }
+    Ok(())
 }
 
-fn print_counts(rt: &impl Print, counts: Counts) -> anyhow::Result<()> {
+fn print_counts(rt: &impl Print, counts: Counts) -> io::Result<()> {
     let Counts {
         members,
         grid,
@@ -36,6 +27,5 @@ fn print_counts(rt: &impl Print, counts: Counts) -> anyhow::Result<()> {
     } = counts;
     println!(rt; "members,{members}")?;
     println!(rt; "grid,{grid}")?;
-    println!(rt; "readings,{readings}")?;
-    Ok(())
+    println!(rt; "readings,{readings}")
 }

@@ -1,82 +1,48 @@
-//! What is done with the rows of each sheet.
+//! The call that is made of a row of each sheet.
+ghost use Rattle.std.specs.Prelude.{◌≡◌, ◌-◌, ◌^◌, min, pos};
+
 use house::House;
 use parting::LargestRemainder;
 use pool::{Pool, Refusal};
 use sheet_kinds::{GridNumbers, MemberRow, ReadingNumbers};
 
-/// The kind whose members have a regional amount.
+/// The number of the kind whose members have a regional amount. It is compared as the sheet has it: `day::MemberKind` has no
+/// case for a number that is no kind, whose call is to be refused by the pool.
 const REGIONAL: u64 = 4;
 
 pub type HousePool = Pool<House, LargestRemainder>;
 
-/// A call, or none, for each row of a sheet.
-pub trait Duty {
-    type Row;
-
-    fn enter(&self, pool: &mut HousePool, member: i64, row: Self::Row) -> Result<(), Refusal>;
-}
-
 /// A number of a sheet, which has ten digits at most, as a number of a call.
-fn number(value: u64) -> i64 {
-    value.min(i64::MAX as u64) as i64
+fn number(value: u64) -> i64
+    ensures answer { result ≡ pos (min value (2 ^ 63 - 1)) }
+{
+    i64::try_from(value).unwrap_or(i64::MAX)
 }
 
-pub struct Enrolling;
+pub fn enrol(pool: &mut HousePool, row: MemberRow) -> Result<(), Refusal> {
+    pool.enrol(number(row.kind)).map(|_| ())
+}
 
-impl Duty for Enrolling {
-    type Row = MemberRow;
-
-    fn enter(&self, pool: &mut HousePool, _member: i64, row: MemberRow) -> Result<(), Refusal> {
-        match pool.enrol(number(row.kind)) {
-            Ok(_) => Ok(()),
-            Err(refusal) => Err(refusal),
-        }
+/// The amount of a member of kind 4, and of any whose row has one.
+pub fn amount(pool: &mut HousePool, member: i64, row: MemberRow) -> Result<(), Refusal> {
+    if row.kind == REGIONAL || row.pays != 0 || row.gets != 0 {
+        let paise = number(row.pays).wrapping_sub(number(row.gets));
+        pool.amount(member, paise)
+    } else {
+        Ok(())
     }
 }
 
-/// Amounts of kind 4, and of any member whose row has one.
-pub struct Amounts;
-
-impl Duty for Amounts {
-    type Row = MemberRow;
-
-    fn enter(&self, pool: &mut HousePool, member: i64, row: MemberRow) -> Result<(), Refusal> {
-        if row.kind == REGIONAL || row.pays != 0 || row.gets != 0 {
-            let paise = number(row.pays).wrapping_sub(number(row.gets));
-            pool.amount(member, paise)
-        } else {
-            Ok(())
-        }
-    }
+pub fn grid_row(pool: &mut HousePool, row: GridNumbers) -> Result<(), Refusal> {
+    pool.grid_row(number(row.block), number(row.hz100), number(row.price))
 }
 
-pub struct GridRows;
-
-impl Duty for GridRows {
-    type Row = GridNumbers;
-
-    fn enter(&self, pool: &mut HousePool, _member: i64, row: GridNumbers) -> Result<(), Refusal> {
-        pool.grid_row(number(row.block), number(row.hz100), number(row.price))
-    }
-}
-
-pub struct ReadingRows;
-
-impl Duty for ReadingRows {
-    type Row = ReadingNumbers;
-
-    fn enter(
-        &self,
-        pool: &mut HousePool,
-        _member: i64,
-        row: ReadingNumbers,
-    ) -> Result<(), Refusal> {
-        pool.reading(
-            number(row.member),
-            number(row.block),
-            number(row.scheduled),
-            number(row.metered),
-            number(row.available),
-        )
-    }
+pub fn reading(pool: &mut HousePool, row: ReadingNumbers) -> Result<(), Refusal> {
+    pool.reading(
+        number(row.member),
+        number(row.block),
+        number(row.scheduled),
+        number(row.metered),
+        number(row.available),
+    )
 }

@@ -1,86 +1,48 @@
 //! The day that the three sheets stand for, settled in memory.
-use crate::duties::{Amounts, Duty, Enrolling, GridRows, HousePool, ReadingRows};
+use crate::duties::{HousePool, amount, enrol, grid_row, reading};
 use day::{RECORDS, Record};
 use house::house;
 use parting::LargestRemainder;
 use pool::{Pool, Refusal};
-use quantities::Paise;
-use sheet_kinds::{Grid, Members, Readings, RowFault, SheetFault, SheetKind};
-use sheets::UnnamedSheet;
+use sheet_files::{Stop, test_sheets};
+use sheet_kinds::{Grid, Members, Readings, SheetKind, Spot};
+use sheets::NamedSheet;
 
 /// More lines than a sheet can have.
 const LINES: usize = 65_537;
-/// What stands for a sheet where closing is refused.
+/// What stands for a sheet where opening or closing is refused.
 const CLOSING: u8 = 4;
 
-/// What ends the work: a fault, or a refusal with the sheet and the line of its numbers.
-#[derive(Clone, Copy)]
-pub enum Stop {
-    Fault(SheetFault),
-    Refused {
-        sheet: u8,
-        line: usize,
-        refusal: Refusal,
-    },
-}
-
-impl From<SheetFault> for Stop {
-    fn from(fault: SheetFault) -> Stop {
-        Stop::Fault(fault)
+/// A refusal of the call for this line of a sheet.
+fn refused(sheet: u8, line: usize, refusal: Refusal) -> Stop {
+    Stop {
+        spot: Spot {
+            sheet,
+            line,
+            cell: 0,
+        },
+        number: refusal.number(),
     }
 }
 
-impl From<RowFault> for Stop {
-    fn from(fault: RowFault) -> Stop {
-        Stop::Fault(SheetFault::Row(fault))
-    }
-}
-
-/// Gives each row of a sheet its call, up to the first refusal, and answers how many there are.
-fn pass<K: SheetKind, D: Duty<Row = K::Row>>(
+/// Gives each row of a sheet, with its place among them, its call, up to the first refusal, and answers how many there are.
+fn pass<K: SheetKind, F: Fn(&mut HousePool, i64, K::Row) -> Result<(), Refusal>>(
     kind: &K,
-    duty: &D,
     bytes: &[u8],
     pool: &mut HousePool,
-) -> Result<usize, Stop> {
-    let unnamed = UnnamedSheet::begin(kind, bytes)?;
-    let columns = unnamed.check_names(kind)?;
-    let mut sheet = unnamed.named(columns);
-    for member in 0..LINES {
+    call: F,
+) -> Result<usize, Stop>
+    requires { F.IsAlwaysCallable call }
+{
+    let mut sheet = NamedSheet::open(kind, bytes)?;
+    // The place is a number of the call: `while let` would count it by hand.
+    for place in 0..LINES {
         let Some(row) = sheet.next_row(kind)? else {
-            return Ok(member);
+            return Ok(place);
         };
-        if let Err(refusal) = duty.enter(pool, member as i64, row) {
-            return Err(Stop::Refused {
-                sheet: kind.sheet(),
-                line: member + 2,
-                refusal,
-            });
-        }
+        call(pool, place as i64, row).map_err(|refusal| refused(kind.sheet(), place + 2, refusal))?;
     }
     Ok(LINES)
-}
-
-fn open(pool: &mut HousePool) -> Result<(), Stop> {
-    match pool.open(1) {
-        Ok(()) => Ok(()),
-        Err(refusal) => Err(Stop::Refused {
-            sheet: CLOSING,
-            line: 0,
-            refusal,
-        }),
-    }
-}
-
-fn close(pool: &mut HousePool, records: &mut [Record]) -> Result<(), Stop> {
-    match pool.close(records) {
-        Ok(()) => Ok(()),
-        Err(refusal) => Err(Stop::Refused {
-            sheet: CLOSING,
-            line: 0,
-            refusal,
-        }),
-    }
 }
 
 /// The records of the day, and how many members it has.
@@ -90,21 +52,28 @@ pub struct Settled {
     pub records: [Record; RECORDS],
 }
 
-/// Settles the day of three sheets that were tested whole.
+/// Settles the day of three sheets, which are tested whole before the first call.
 pub fn settle(members: &[u8], grid: &[u8], readings: &[u8]) -> Result<Settled, Stop> {
+    test_sheets(members, grid, readings)?;
+    let no_line = |refusal| refused(CLOSING, 0, refusal);
     let mut pool = Pool::new(house(), LargestRemainder);
-    let count = pass(&Members, &Enrolling, members, &mut pool)?;
-    open(&mut pool)?;
-    pass(&Members, &Amounts, members, &mut pool)?;
-    pass(&Grid, &GridRows, grid, &mut pool)?;
-    pass(&Readings, &ReadingRows, readings, &mut pool)?;
-    let nothing = Record {
-        base: Paise::NOTHING,
-        surcharge: Paise::NOTHING,
-        line: Paise::NOTHING,
-    };
-    let mut records = [nothing; RECORDS];
-    close(&mut pool, &mut records)?;
+    let count = pass(
+        &Members,
+        members,
+        &mut pool,
+        |pool, _, row| enrol(pool, row),
+    )?;
+    pool.open(1).map_err(no_line)?;
+    pass(&Members, members, &mut pool, amount)?;
+    pass(&Grid, grid, &mut pool, |pool, _, row| grid_row(pool, row))?;
+    pass(
+        &Readings,
+        readings,
+        &mut pool,
+        |pool, _, row| reading(pool, row),
+    )?;
+    let mut records = [Record::default(); RECORDS];
+    pool.close(&mut records).map_err(no_line)?;
     Ok(Settled {
         members: count,
         records,

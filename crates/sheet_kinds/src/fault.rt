@@ -4,7 +4,7 @@ ghost use Rattle.sheet_kinds.specs.declared.fault.SheetFault.TheVariants.{Row};
 ghost use Rattle.std.specs.Prelude.{◌≡◌};
 
 /// Where a fault is: the sheet's number, and the line and the cell, counted from 1. A fault of a whole sheet or line has 0
-/// there.
+/// there. The sheet is a number and no enum, since a kind of sheet may be added outside this crate.
 #[derive(Clone, Copy)]
 pub struct Spot {
     pub sheet: u8,
@@ -12,11 +12,11 @@ pub struct Spot {
     pub cell: usize,
 }
 
-/// What is wrong with a cell.
+/// What is wrong with a cell, by the fault's number.
 #[derive(Clone, Copy)]
 pub enum CellCause {
-    Empty,
-    NotNumber,
+    Empty = 25,
+    NotNumber = 26,
 }
 
 #[derive(Clone, Copy)]

@@ -4,14 +4,31 @@ ghost use Rattle.std.specs.Prelude.{◌≡◌};
 
 use crate::fault::{CellCause, RowFault, SheetFault, Spot};
 
+impl Spot {
+    /// The place of a fault of a whole line.
+    fn of_line(sheet: u8, line: usize) -> Spot
+        ensures answer { result ≡ record { sheet = sheet; line = line; cell = 0 } }
+    {
+        Spot {
+            sheet,
+            line,
+            cell: 0,
+        }
+    }
+
+    /// The place of a fault of a whole sheet.
+    fn of_sheet(sheet: u8) -> Spot
+        ensures answer { result ≡ record { sheet = sheet; line = 0; cell = 0 } }
+    {
+        Spot::of_line(sheet, 0)
+    }
+}
+
 impl CellCause {
     pub fn number(self) -> u8
         ensures answer { result ≡ cause_number self }
     {
-        match self {
-            CellCause::Empty => 25,
-            CellCause::NotNumber => 26,
-        }
+        self as u8
     }
 }
 
@@ -29,11 +46,7 @@ impl RowFault {
         ensures answer { result ≡ row_spot self }
     {
         match self {
-            RowFault::Count { sheet, line } => Spot {
-                sheet,
-                line,
-                cell: 0,
-            },
+            RowFault::Count { sheet, line } => Spot::of_line(sheet, line),
             RowFault::Cell(fault) => fault.spot,
         }
     }
@@ -55,21 +68,8 @@ impl SheetFault {
         ensures answer { result ≡ fault_spot self }
     {
         match self {
-            SheetFault::Long(sheet) => Spot {
-                sheet,
-                line: 0,
-                cell: 0,
-            },
-            SheetFault::Unended(sheet) => Spot {
-                sheet,
-                line: 0,
-                cell: 0,
-            },
-            SheetFault::Names(sheet) => Spot {
-                sheet,
-                line: 1,
-                cell: 0,
-            },
+            SheetFault::Long(sheet) | SheetFault::Unended(sheet) => Spot::of_sheet(sheet),
+            SheetFault::Names(sheet) => Spot::of_line(sheet, 1),
             SheetFault::Row(fault) => fault.spot(),
         }
     }

@@ -40,10 +40,11 @@ impl SheetKind for Grid {
     }
 
     fn row(&self, values: &[u64; MOST_NAMES]) -> GridNumbers {
+        let [block, hz100, price, ..] = *values;
         GridNumbers {
-            block: values[0],
-            hz100: values[1],
-            price: values[2],
+            block,
+            hz100,
+            price,
         }
     }
 }

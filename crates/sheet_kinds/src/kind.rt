@@ -1,6 +1,7 @@
 //! What a kind of sheet is: its names, which of its cells may be empty, and its row.
 ghost use Rattle.std.specs.Prelude.{◌≡◌, ℕ, ◌≤◌, Bool, true, List, map, length, slice_index};
 ghost use Rattle.sheet_kinds.specs.Tables.{Table, apart, plain_names};
+ghost use Rattle.sheet_kinds.specs.declared.kind.TheConstants.{MOST_NAMES};
 
 /// The most names that a kind has.
 pub const MOST_NAMES: usize = 8;
@@ -20,7 +21,7 @@ pub trait SheetKind {
 
     fn names(&self) -> &[&[u8]]
         ensures answer { map (λ x. x.now) result.now ≡ table.names }
-        ensures few { length result.now ≤ 8 };
+        ensures few { length result.now ≤ MOST_NAMES };
 
     /// May a cell of this column be empty? It then means 0.
     fn may_be_empty(&self, column: usize) -> bool

@@ -40,10 +40,7 @@ impl SheetKind for Members {
     }
 
     fn row(&self, values: &[u64; MOST_NAMES]) -> MemberRow {
-        MemberRow {
-            kind: values[0],
-            pays: values[1],
-            gets: values[2],
-        }
+        let [kind, pays, gets, ..] = *values;
+        MemberRow { kind, pays, gets }
     }
 }

@@ -42,12 +42,13 @@ impl SheetKind for Readings {
     }
 
     fn row(&self, values: &[u64; MOST_NAMES]) -> ReadingNumbers {
+        let [member, block, scheduled, metered, available, ..] = *values;
         ReadingNumbers {
-            member: values[0],
-            block: values[1],
-            scheduled: values[2],
-            metered: values[3],
-            available: values[4],
+            member,
+            block,
+            scheduled,
+            metered,
+            available,
         }
     }
 }

@@ -4,7 +4,6 @@ pub mod Listing
 pub mod Reading
 pub mod Walks
 pub mod Small
-pub mod Left
 pub mod Counts
 pub mod Nexts
 pub mod Orders

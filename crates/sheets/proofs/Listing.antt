@@ -1,8 +1,8 @@
 -- The columns of a line of names, one cell after another.
-use Rattle.std.proofs.Common.{◌≡◌, ℕ, ◌+◌, ◌<◌, ◌≤◌, true, false, ◌||◌, eqb, ◌≢◌, List, [], ◌∷◌, ◌++◌, map, length, get_or, take, set, Some, None, sym, refl, ap, ◌∙◌, append_assoc, append-nil, arith, length-set, below_more}
+use Rattle.std.proofs.Common.{◌≡◌, ℕ, ◌+◌, ◌<◌, true, false, ◌||◌, eqb, ◌≢◌, List, [], ◌∷◌, ◌++◌, map, length, get_or, take, set, Some, None, sym, ap, ◌∙◌, append_assoc, arith, length-set, below_more}
 use Rattle.sheets.specs.Columns.{has, fresh, index_of, columns_of}
 use Rattle.std.proofs.lemmas.List.{get_or-set_same, get_or-set_other, take_more_set}
-use Rattle.std.proofs.lemmas.Bool.{cond-true, cond-false, and_from, and_left, and_right, ne_eqb, eq-eqb}
+use Rattle.std.proofs.lemmas.Bool.{cond-true, cond-false, and_right}
 
 -- i cells of all are done, and ps are left
 pub record Listing (names all ps : List (List ℕ)) (n i : ℕ) (at : List ℕ) : Type 0 where
@@ -12,35 +12,11 @@ pub record Listing (names all ps : List (List ℕ)) (n i : ℕ) (at : List ℕ) 
   pub same : fresh n (take i at) (map (index_of names) ps) ≡ fresh n [] (map (index_of names) all)
   pub whole : take i at ++ map (index_of names) ps ≡ map (index_of names) all
 
-pub begin : (names all : List (List ℕ)) (n : ℕ) (at : List ℕ) → length at ≡ 8 → Listing names all all n 0 at
-begin names all n at room = record { room = room; inside = λ j k. absurd (omega arith); left = omega arith; same = refl; whole = refl }
-
 module _ (names cells : List (List ℕ)) where
-  none_count : (length cells ≡ length names → ⊥) → None ≡ columns_of names cells
-  none_count h = sym (cond-false _ (Some (map (index_of names) cells)) None (and_left _ _ (ne_eqb _ _ h)))
-
   none_fresh : fresh (length names) [] (map (index_of names) cells) ≡ false → None ≡ columns_of names cells
   none_fresh h = sym (cond-false _ (Some (map (index_of names) cells)) None (and_right (eqb (length cells) (length names)) _ h))
 
-  some_all : length cells ≡ length names → fresh (length names) [] (map (index_of names) cells) ≡ true → Some (map (index_of names) cells) ≡ columns_of names cells
-  some_all h e = sym (cond-true _ (Some (map (index_of names) cells)) None (and_from _ _ (eq-eqb _ _ h) e))
-
 module _ {names all ps : List (List ℕ)} {i : ℕ} {at : List ℕ} (o : Listing names all ps (length names) i at) where
-  -- the cells end before the names
-  pub ran_out : ps ≡ [] → i < length names → None ≡ columns_of names all
-  ran_out e h = none_count names all (λ z. omega (arith, o.left, ap length e, z, h))
-
-  -- more cells than names
-  pub too_many : 0 < length ps → length names ≤ i → None ≡ columns_of names all
-  too_many m h = none_count names all (λ z. omega (arith, o.left, m, z, h))
-
-  -- as many cells as names
-  pub done : ps ≡ [] → i ≡ length names → Some (take i at) ≡ columns_of names all
-  done e h =
-      let all_in : take i at ≡ map (index_of names) all = sym (append-nil (take i at)) ∙ ap (λ qs. take i at ++ map (index_of names) qs) (sym e) ∙ o.whole in
-      let good : fresh (length names) [] (map (index_of names) all) ≡ true = sym o.same ∙ ap (λ qs. fresh (length names) (take i at) (map (index_of names) qs)) e in
-      ap Some all_in ∙ some_all names all (omega (arith, o.left, ap length e, h)) good
-
   module _ (k : ℕ) (c : List ℕ) (qs : List (List ℕ)) (were : ps ≡ c ∷ qs) (is : k ≡ index_of names c) where
     mapped_step : map (index_of names) ps ≡ k ∷ map (index_of names) qs
     mapped_step = ap (map (index_of names)) were ∙ ap (λ x. x ∷ map (index_of names) qs) (sym is)

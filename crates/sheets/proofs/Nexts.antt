@@ -8,7 +8,6 @@ use Rattle.sheet_kinds.specs.declared.fault.RowFault.{RowFault}
 use Rattle.sheets.specs.Rows.{map_ok, read_row, by_place}
 use Rattle.sheets.specs.States.{next_row, line_less}
 use Rattle.std.proofs.lemmas.Bool.{true≢false}
-use Rattle.std.specs.Result.{result_ok}
 
 some_onto : (b : ℕ) (cs : List (List ℕ)) → 0 < length (onto b cs)
 some_onto b [] = suc-le-suc zero-le
@@ -26,11 +25,6 @@ placed_some at (t ∷ ts) h = refl
 map_some : {X R E : Type 0} (f : X → R) (r : Result X E) → map_ok Some (map_ok f r) ≡ map_ok (λ x. Some (f x)) r
 map_some f (Ok x) = refl
 map_some f (Err e) = refl
-
--- a row that is there
-pub some_ok : {X E : Type 0} (r : Result X E) (x : X) → Some x ≡ result_ok r → Ok x ≡ r
-some_ok (Ok y) x e = ap Ok (let p : x ≡ y = cc in p)
-some_ok (Err f) x e = absurd (let z : ◌≡◌ {A = ℕ} 0 1 = cc in omega arith)
 
 -- the reader of the first of some lines starts at a place
 module _ {R : Type 0} (table : Table) (row_of : (ℕ → ℕ) → R) (line : ℕ) (columns : List ℕ) (at : ℕ) where

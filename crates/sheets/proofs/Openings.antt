@@ -1,13 +1,7 @@
 -- Sheets without bytes, and how many lines bytes have.
-use Rattle.std.proofs.Common.{◌≡◌, ℕ, suc, ◌≤◌, true, false, cond, eqb, List, [], ◌∷◌, length, Err, refl, suc-le-suc, zero-le, arith}
+use Rattle.std.proofs.Common.{ℕ, suc, ◌≤◌, true, false, cond, eqb, List, [], ◌∷◌, length, suc-le-suc, zero-le, arith}
 use Rattle.cells.specs.Cells.{lines, onto, line_feed}
 use Rattle.cells.specs.Left.{others}
-use Rattle.sheet_kinds.specs.declared.fault.SheetFault.TheVariants.{Unended}
-use Rattle.sheets.specs.Sheets.{opening}
-
-pub no_bytes : (bs : List ℕ) (sheet : ℕ) → length bs ≡ 0 → Err (Unended sheet) ≡ opening sheet bs
-no_bytes [] sheet e = refl
-no_bytes (b ∷ bs) sheet e = absurd (omega arith)
 
 onto_few : (b : ℕ) (ls : List (List ℕ)) → length (onto b ls) ≤ suc (length ls)
 onto_few b [] = omega arith

@@ -1,74 +1,46 @@
 -- Names that stand once each, in any order.
-use Rattle.std.proofs.Common.{◌≡◌, ℕ, zero, suc, ◌<◌, true, false, ◌&&◌, ◌||◌, eqb, List, [], ◌∷◌, ◌++◌, map, length, get_or, Some, None, Option, sym, refl, ap, ◌∙◌, subst, ⊎_elim, arith}
+use Rattle.std.proofs.Common.{◌≡◌, ℕ, zero, suc, ◌<◌, true, false, ◌&&◌, ◌||◌, eqb, List, [], ◌∷◌, ◌++◌, map, length, get_or, Some, None, sym, refl, ap, ◌∙◌, subst, ⊎_elim, arith}
 use Rattle.sheet_kinds.specs.Tables.{apart, is_among}
 use Rattle.sheets.proofs.Indexes.{index_le}
 use Rattle.sheets.specs.Columns.{has, fresh, index_of, columns_of}
 use Rattle.sheets.specs.Names.{EachOnce, AnyOrder}
 use Rattle.std.proofs.lemmas.Slice.Eq.{bytes_eq-Decides}
 use Rattle.std.proofs.lemmas.List.{ext_get_or, get_or-map, length-map}
+use Rattle.std.proofs.lemmas.Bool.Decides.{nat_tests}
 use Rattle.std.proofs.lemmas.Bool.{cond-true, cond-false, cases_Bool, and_parts, and_from, or_parts, or_from, eqb-true, eqb-false, eq-eqb, ne_eqb, true≢false}
-use Rattle.std.specs.Str.{bytes_eq}
-
-some_same : {X : Type 0} {x y : X} → ◌≡◌ {A = Option X} (Some x) (Some y) → x ≡ y
-some_same h = cc
-
-none_some : {A X : Type 0} {x : X} → ◌≡◌ {A = Option X} None (Some x) → A
-none_some h = absurd (let z : ◌≡◌ {A = ℕ} 0 1 = cc in omega arith)
 
 -- the place of a name has that name
 index_named : (names : List (List ℕ)) (c : List ℕ) → index_of names c < length names → get_or names (index_of names c) [] ≡ c
 index_named [] c h = absurd (omega arith)
-index_named (n ∷ ns) c h =
-    ⊎_elim
-    (λ t. ap (λ k. get_or (n ∷ ns) k []) (cond-true _ 0 (suc (index_of ns c)) t) ∙ (bytes_eq-Decides n c).0 t)
-    (λ f.
-    let e = cond-false _ 0 (suc (index_of ns c)) f in
-    ap (λ k. get_or (n ∷ ns) k []) e ∙ index_named ns c (omega (arith, h, e)))
-    (cases_Bool (bytes_eq n c))
+index_named (n ∷ ns) c h = let d = bytes_eq-Decides n c in let r = index_named ns c in grind (arith, nat_tests)
 
 not_among : (n : List ℕ) (ns : List (List ℕ)) (k : ℕ) → k < length ns → is_among n ns ≡ false → get_or ns k [] ≡ n → ⊥
 not_among n [] k h e p = absurd (omega arith)
-not_among n (m ∷ ms) zero h e p = true≢false (sym (cond-true _ true (is_among n ms) ((bytes_eq-Decides m n).1 p)) ∙ e)
-not_among n (m ∷ ms) (suc k) h e p =
-    ⊎_elim
-    (λ t. absurd (true≢false (sym (cond-true _ true (is_among n ms) t) ∙ e)))
-    (λ f. not_among n ms k (omega arith) (sym (cond-false _ true (is_among n ms) f) ∙ e) p)
-    (cases_Bool (bytes_eq m n))
+not_among n (m ∷ ms) zero h e p = let d = bytes_eq-Decides m n in grind (arith, nat_tests)
+not_among n (m ∷ ms) (suc k) h e p = let d = bytes_eq-Decides m n in let r = not_among n ms k in grind (arith, nat_tests)
 
 apart_parts : (n : List ℕ) (ns : List (List ℕ)) → apart (n ∷ ns) ≡ true → (is_among n ns ≡ false) × (apart ns ≡ true)
-apart_parts n ns e =
-    ⊎_elim
-    (λ t. absurd (true≢false (sym e ∙ cond-true _ false (apart ns) t)))
-    (λ f. (f, sym (cond-false _ false (apart ns) f) ∙ e))
-    (cases_Bool (is_among n ns))
+apart_parts n ns e = (grind (arith, nat_tests), grind (arith, nat_tests))
 
 -- where no name stands twice, each is found at its place
 index_apart : (names : List (List ℕ)) (k : ℕ) → apart names ≡ true → k < length names → index_of names (get_or names k []) ≡ k
 index_apart [] k a h = absurd (omega arith)
-index_apart (n ∷ ns) zero a h = cond-true _ 0 _ ((bytes_eq-Decides n n).1 refl)
+index_apart (n ∷ ns) zero a h = let d = bytes_eq-Decides n n in grind (arith, nat_tests)
 index_apart (n ∷ ns) (suc k) a h =
     let p = apart_parts n ns a in
-    ⊎_elim
-    (λ t. absurd (not_among n ns k (omega arith) p.0 (sym ((bytes_eq-Decides n (get_or ns k [])).0 t))))
-    (λ f. cond-false _ 0 _ f ∙ ap suc (index_apart ns k p.1 (omega arith)))
-    (cases_Bool (bytes_eq n (get_or ns k [])))
+    let d = bytes_eq-Decides n (get_or ns k []) in
+    let no = not_among n ns k (omega arith) p.0 in
+    let r = index_apart ns k p.1 (omega arith) in
+    grind (arith, nat_tests)
 
 -- what is in a list with one more at its end
 has_push : (x k : ℕ) (xs : List ℕ) → has x (xs ++ k ∷ []) ≡ false → (has x xs ≡ false) × (k ≡ x → ⊥)
-has_push x k [] e = (refl, λ p. true≢false (sym (cond-true _ true false (eq-eqb k x p)) ∙ e))
-has_push x k (y ∷ ys) e =
-    ⊎_elim
-    (λ t. absurd (true≢false (sym (cond-true _ true _ t) ∙ e)))
-    (λ f. let p = has_push x k ys (sym (cond-false _ true _ f) ∙ e) in (cond-false _ true _ f ∙ p.0, p.1))
-    (cases_Bool (eqb y x))
+has_push x k [] e = (refl, λ p. grind (arith, nat_tests))
+has_push x k (y ∷ ys) e = let r = has_push x k ys in (grind (arith, nat_tests), λ p. grind (arith, nat_tests))
 
 push_has : (x k : ℕ) (xs : List ℕ) → has x xs ≡ false → (k ≡ x → ⊥) → has x (xs ++ k ∷ []) ≡ false
-push_has x k [] e p = cond-false _ true false (ne_eqb k x p)
-push_has x k (y ∷ ys) e p =
-    ⊎_elim
-    (λ t. absurd (true≢false (sym (cond-true _ true _ t) ∙ e)))
-    (λ f. cond-false _ true _ f ∙ push_has x k ys (sym (cond-false _ true _ f) ∙ e) p)
-    (cases_Bool (eqb y x))
+push_has x k [] e p = grind (arith, nat_tests)
+push_has x k (y ∷ ys) e p = let r = push_has x k ys in grind (arith, nat_tests)
 
 -- each of ks is a place below n that is not among those seen, and none stands twice
 record Fresh (n : ℕ) (seen ks : List ℕ) : Type 0 where
@@ -123,7 +95,7 @@ module _ (names cells : List (List ℕ)) (columns : List ℕ) where
       ⊎_elim
       (λ t e.
       let p = and_parts (eqb (length cells) (length names)) (fresh (length names) [] (map (index_of names) cells)) t in
-      let are : map (index_of names) cells ≡ columns = some_same (sym (cond-true _ (Some (map (index_of names) cells)) None t) ∙ e) in
+      let are : map (index_of names) cells ≡ columns = let s : Some (map (index_of names) cells) ≡ Some columns = sym (cond-true _ (Some (map (index_of names) cells)) None t) ∙ e in cc in
       let f = fresh_says (length names) [] (map (index_of names) cells) p.1 in
       let long = length-map cells (index_of names) in
       let low : (i : ℕ) → i < length cells → index_of names (get_or cells i []) < length names =
@@ -135,7 +107,7 @@ module _ (names cells : List (List ℕ)) (columns : List ℕ) where
         named = λ i h. ap (λ k. get_or names k []) (place_at i h) ∙ index_named names (get_or cells i []) (low i h);
         once = λ i j l h. f.distinct i j l (omega (arith, long, h));
       }))
-      (λ t e. none_some (sym (cond-false _ (Some (map (index_of names) cells)) None t) ∙ e))
+      (λ t e. let n : None ≡ Some columns = sym (cond-false _ (Some (map (index_of names) cells)) None t) ∙ e in cc)
       (cases_Bool (eqb (length cells) (length names) && fresh (length names) [] (map (index_of names) cells)))
 
   -- names that stand once each are accepted

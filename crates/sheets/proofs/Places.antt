@@ -3,7 +3,8 @@ use Rattle.std.proofs.Common.{◌≡◌, ℕ, zero, suc, ◌+◌, ◌<◌, ◌�
 use Rattle.sheets.specs.Columns.{has}
 use Rattle.sheets.specs.Written.{EachPlace}
 use Rattle.std.proofs.lemmas.List.{get_or-set_same, get_or-set_other, length-set, length-replicate, ext_get_or}
-use Rattle.std.proofs.lemmas.Bool.{cond-true, cond-false, cases_Bool, cases_eq, eqb-true, eq-eqb, ne_eqb, true≢false}
+use Rattle.std.proofs.lemmas.Bool.Decides.{nat_tests}
+use Rattle.std.proofs.lemmas.Bool.{cond-false, cases_Bool, cases_eq, eqb-true, true≢false}
 
 abbrev one_if : Bool → ℕ
 one_if b = cond b 1 0
@@ -15,43 +16,32 @@ taken (suc n) ks = one_if (has n ks) + taken n ks
 
 taken_le : (n : ℕ) (ks : List ℕ) → taken n ks ≤ n
 taken_le zero ks = omega arith
-taken_le (suc n) ks =
-    elim (has n ks) as (λ t. one_if t + taken n ks ≤ suc n) [ true ↦ omega (arith, taken_le n ks) | false ↦ omega (arith, taken_le n ks) ]
+taken_le (suc n) ks = let r = taken_le n ks in grind (arith, nat_tests)
 
 -- where as many are taken as there are, each one is
 all_taken : (n : ℕ) (ks : List ℕ) → taken n ks ≡ n → (k : ℕ) → k < n → has k ks ≡ true
 all_taken zero ks e k h = absurd (omega arith)
 all_taken (suc n) ks e k h =
-    ⊎_elim
-    (λ t.
-    let one : one_if (has n ks) ≡ 1 = cond-true _ 1 0 t in
-    ⊎_elim (λ here. ap (λ j. has j ks) here ∙ t) (λ there. all_taken n ks (omega (arith, one, e)) k (omega (arith, h, there))) (cases_eq k n))
-    (λ f. let none : one_if (has n ks) ≡ 0 = cond-false _ 1 0 f in absurd (omega (arith, none, e, taken_le n ks)))
-    (cases_Bool (has n ks))
+    let low = taken_le n ks in
+    let r = λ (p : taken n ks ≡ n). all_taken n ks p k in
+    ⊎_elim (λ here. grind (arith, nat_tests)) (λ there. grind (arith, nat_tests)) (cases_eq k n)
 
 taken_past : (n k : ℕ) (ks : List ℕ) → n ≤ k → taken n (k ∷ ks) ≡ taken n ks
 taken_past zero k ks h = refl
-taken_past (suc n) k ks h =
-    let other : has n (k ∷ ks) ≡ has n ks = cond-false _ true (has n ks) (ne_eqb k n (λ z. omega (arith, z, h))) in
-    (λ t. one_if (other t) + taken_past n k ks (omega arith) t)
+taken_past (suc n) k ks h = let r = taken_past n k ks (omega arith) in grind (arith, nat_tests)
 
 -- one more that was not among them
 taken_more : (n k : ℕ) (ks : List ℕ) → k < n → has k ks ≡ false → taken n (k ∷ ks) ≡ suc (taken n ks)
 taken_more zero k ks h e = absurd (omega arith)
 taken_more (suc n) k ks h e =
     ⊎_elim
-    (λ here.
-    let now-in : one_if (has n (k ∷ ks)) ≡ 1 = cond-true _ 1 0 (cond-true _ true (has n ks) (eq-eqb k n here)) in
-    let was-out : one_if (has n ks) ≡ 0 = cond-false _ 1 0 (ap (λ j. has j ks) (sym here) ∙ e) in
-    omega (arith, now-in, was-out, taken_past n k ks (omega (arith, here))))
-    (λ there.
-    let same : one_if (has n (k ∷ ks)) ≡ one_if (has n ks) = ap one_if (cond-false _ true (has n ks) (ne_eqb k n there)) in
-    omega (arith, same, taken_more n k ks (omega (arith, h, there)) e))
+    (λ here. let r = taken_past n k ks (omega (arith, here)) in grind (arith, nat_tests))
+    (λ there. let r = taken_more n k ks (omega (arith, h, there)) e in grind (arith, nat_tests))
     (cases_eq k n)
 
 not_in : (k : ℕ) (ks : List ℕ) → ((j : ℕ) → j < length ks → k ≡ get_or ks j 0 → ⊥) → has k ks ≡ false
 not_in k [] h = refl
-not_in k (x ∷ xs) h = cond-false _ true (has k xs) (ne_eqb x k (λ z. h 0 (omega arith) (sym z))) ∙ not_in k xs (λ j l. h (suc j) (omega arith))
+not_in k (x ∷ xs) h = let here = h 0 (omega arith) in let r = not_in k xs (λ j l. h (suc j) (omega arith)) in grind (arith, nat_tests)
 
 taken_none : (n : ℕ) → taken n [] ≡ 0
 taken_none zero = refl

@@ -1,15 +1,13 @@
 -- The values of a row, one cell after another.
-use Rattle.std.proofs.Common.{◌≡◌, ℕ, zero, suc, ◌+◌, ◌<◌, ◌≤◌, eqb, ◌≢◌, List, [], ◌∷◌, length, get_or, take, drop, set, replicate, Some, None, Ok, Err, Result, sym, refl, ap, ◌∙◌, subst, ⊎_elim, arith, length-set}
+use Rattle.std.proofs.Common.{◌≡◌, ℕ, zero, suc, ◌+◌, ◌<◌, ◌≤◌, ◌≢◌, List, [], ◌∷◌, length, get_or, take, drop, set, replicate, Ok, Err, Result, sym, refl, ap, ◌∙◌, subst, ⊎_elim, arith, length-set}
 use Rattle.cells.specs.Numbers.{meaning}
 use Rattle.sheet_kinds.specs.Tables.{Table}
 use Rattle.sheet_kinds.specs.declared.fault.CellFault.{CellFault}
-use Rattle.sheet_kinds.specs.declared.fault.RowFault.TheVariants.{Count, Cell}
 use Rattle.sheets.specs.Rows.{value_of, read_cells, read_row, and_cell, map_ok, by_place}
 use Rattle.sheets.specs.Values.{put_value}
 use Rattle.sheets.specs.declared.values.RowValues.{RowValues}
-use Rattle.std.proofs.lemmas.List.{drop_more, drop_all, take-replicate, get_or-take, get_or_past, get_or-set_other, length-take-le}
-use Rattle.std.proofs.lemmas.Bool.{cond-true, cond-false, cond_both, cases_lt, eq-eqb, ne_eqb}
-use Rattle.std.specs.Result.{result_ok}
+use Rattle.std.proofs.lemmas.List.{drop_more, drop_all, get_or-take, get_or_past, get_or-set_other, length-take-le}
+use Rattle.std.proofs.lemmas.Bool.{cond-true, cases_lt, eq-eqb}
 
 take_set_in : (n : ℕ) (xs : List ℕ) (k v : ℕ) → take n (set xs k v) ≡ set (take n xs) k v
 take_set_in zero xs k v = refl
@@ -30,37 +28,15 @@ zero_anywhere (suc n) zero = refl
 zero_anywhere (suc n) (suc k) = zero_anywhere n k
 
 module _ (table : Table) (line : ℕ) (columns : List ℕ) (all : List (List ℕ)) (n : ℕ) (long : length columns ≡ n) (few : n ≤ 8) where
-  pub begin : (vs : RowValues) → vs.at ≡ replicate 8 0 → vs.first ≡ Ok tt → Reading table line columns all all n 0 vs
-  begin vs a f = record {
-    room = ap length a;
-    zeros = λ k h. ap (λ l. get_or l k 0) a ∙ zero_anywhere 8 k;
-    left = omega arith;
-    same = (λ t. and_cell (f t) (λ _. read_cells table line columns 1 all (take n (a t)))) ∙ ap (read_cells table line columns 1 all) (take-replicate n 8 0 few);
-  }
-
-  miscounted : (length all ≡ n → ⊥) → Err (Count table.number line) ≡ read_row table line columns all
-  miscounted h = sym (cond-false _ _ _ (ne_eqb _ _ (λ e. h (e ∙ long))))
-
   counted : length all ≡ n → read_row table line columns all ≡ read_cells table line columns 1 all (replicate n 0)
   counted h = cond-true _ _ _ (eq-eqb _ _ (h ∙ sym long)) ∙ ap (λ k. read_cells table line columns 1 all (replicate k 0)) long
 
   module _ {ps : List (List ℕ)} {i : ℕ} {vs : RowValues} (o : Reading table line columns all ps n i vs) where
-    -- the cells end before the columns
-    pub ran_out : ps ≡ [] → i < n → Err (Count table.number line) ≡ read_row table line columns all
-    ran_out e h = miscounted (λ z. omega (arith, o.left, ap length e, z, h))
-
-    -- more cells than columns
-    pub too_many : 0 < length ps → n ≤ i → Err (Count table.number line) ≡ read_row table line columns all
-    too_many m h = miscounted (λ z. omega (arith, o.left, m, z, h))
-
     finished : ps ≡ [] → i ≡ n → read_row table line columns all ≡ and_cell vs.first (λ _. Ok (take n vs.at))
     finished e h =
         counted (omega (arith, o.left, ap length e, h))
         ∙ sym o.same
         ∙ ap (λ ks. and_cell vs.first (λ _. read_cells table line ks (i + 1) ps (take n vs.at))) (drop_all i columns (omega (arith, long, h)))
-
-    pub faulty : (f : CellFault) → ps ≡ [] → i ≡ n → vs.first ≡ Err f → read_row table line columns all ≡ Err (Cell f)
-    faulty f e h k = finished e h ∙ ap (λ r. and_cell r (λ _. Ok (take n vs.at))) k
 
     pub done : {R : Type 0} (row_of : (ℕ → ℕ) → R) → ps ≡ [] → i ≡ n → vs.first ≡ Ok tt → Ok (row_of (λ k. get_or vs.at k 0)) ≡ map_ok (λ v. row_of (by_place v)) (read_row table line columns all)
     done row_of e h k =
@@ -104,24 +80,3 @@ module _ (table : Table) (line : ℕ) (columns : List ℕ) (all : List (List ℕ
                 ∙ sym (ap (λ x. and_cell vs.first (λ _. x)) turned)
                 ∙ o.same;
           })
-
-      -- this cell has no value
-      pub broken : {R : Type 0} (f : List ℕ → R) (e : CellFault) → value_of (meaning c) (table.optional (get_or columns i 0)) (record { sheet = table.number; line = line; cell = i + 1 }) ≡ Err e → vs.first ≡ Ok tt → result_ok (map_ok f (read_row table line columns all)) ≡ None
-      broken f e h k =
-          let bad : read_cells table line columns 1 all (replicate n 0) ≡ Err (Cell e) =
-          sym o.same
-          ∙ ap (λ r. and_cell r (λ _. read_cells table line (drop i columns) (i + 1) ps (take n vs.at))) k
-          ∙ turned
-          ∙ ap (λ r. and_cell r (λ v. read_cells table line (drop (i + 1) columns) (i + 1 + 1) qs (set (take n vs.at) (get_or columns i 0) v))) h in
-          cond_both (eqb (length all) (length columns)) _ _ (λ r. result_ok (map_ok f r) ≡ None)
-          (λ t. ap (λ r. result_ok (map_ok f r)) (ap (λ j. read_cells table line columns 1 all (replicate j 0)) long ∙ bad))
-          (λ t. refl)
-
--- a value that is there, or not
-pub some_value : (r : Result ℕ CellFault) (v : ℕ) → Some v ≡ result_ok r → Ok v ≡ r
-some_value (Ok w) v e = ap Ok (let p : v ≡ w = cc in p)
-some_value (Err f) v e = absurd (let z : ◌≡◌ {A = ℕ} 0 1 = cc in omega arith)
-
-pub no_value : (r : Result ℕ CellFault) → None ≡ result_ok r → (e : CellFault) × (r ≡ Err e)
-no_value (Ok w) e = absurd (let z : ◌≡◌ {A = ℕ} 0 1 = cc in omega arith)
-no_value (Err f) e = (f, refl)

@@ -1,29 +1,27 @@
 -- Every value of a row has ten digits at most.
-use Rattle.std.proofs.Common.{◌≡◌, ℕ, zero, suc, ◌+◌, ◌≤◌, Bool, eqb, List, [], ◌∷◌, length, get_or, set, replicate, IfOk, Some, None, Ok, Err, Option, Result, sym, refl, subst, arith}
+use Rattle.std.proofs.Common.{◌≡◌, ℕ, zero, suc, ◌+◌, ◌≤◌, Bool, eqb, List, [], ◌∷◌, length, get_or, set, replicate, IfOk, Some, None, Ok, Err, Option, Result, refl, subst, arith}
 use Rattle.cells.proofs.Small.{number_small}
 use Rattle.cells.specs.Cells.{cells}
 use Rattle.cells.specs.Left.{first_cells, others}
-use Rattle.cells.specs.Numbers.{meaning, number_or_other, number_of, empty, most_number}
+use Rattle.cells.specs.Numbers.{meaning, number_or_other, number_of, most_number}
 use Rattle.sheet_kinds.specs.Tables.{Table}
 use Rattle.sheet_kinds.specs.declared.fault.CellFault.{CellFault}
 use Rattle.sheet_kinds.specs.declared.fault.RowFault.{RowFault}
 use Rattle.sheet_kinds.specs.declared.fault.SheetFault.{SheetFault}
 use Rattle.sheet_kinds.specs.declared.fault.Spot.{Spot}
-use Rattle.sheets.proofs.Walks.{ok_err, ok_same}
+use Rattle.sheets.proofs.Walks.{ok_same}
 use Rattle.sheets.specs.Rows.{value_of, and_cell, read_cells, read_row, map_ok}
 use Rattle.sheets.specs.Sheets.{and_row, and_then, rows_from, from_lines, names_columns, sheet_lines, sheet_rows}
 use Rattle.sheets.specs.Small.{Small, SmallRows}
+use Rattle.std.proofs.lemmas.Bool.Decides.{nat_tests}
 use Rattle.std.proofs.lemmas.Bool.{cond_both}
 
 or_small : (may : Bool) (spot : Spot) (v : ℕ) (o : Option ℕ) → ((n : ℕ) → o ≡ Some n → n ≤ most_number) → value_of (number_or_other o) may spot ≡ Ok v → v ≤ most_number
-or_small may spot v None k e = ok_err (sym e)
-or_small may spot v (Some n) k e = subst (λ m. m ≤ most_number) (ok_same e) (k n refl)
+or_small may spot v None k e = cc
+or_small may spot v (Some n) k e = let same : n ≡ v = cc in omega (arith, k n refl)
 
 value_small : (bs : List ℕ) (may : Bool) (spot : Spot) (v : ℕ) → value_of (meaning bs) may spot ≡ Ok v → v ≤ most_number
-value_small bs may spot v =
-    cond_both (eqb (length bs) 0) empty (number_or_other (number_of bs)) (λ m. value_of m may spot ≡ Ok v → v ≤ most_number)
-    (λ t. cond_both may (Ok 0) (Err _) (λ r. r ≡ Ok v → v ≤ most_number) (λ y e. subst (λ m. m ≤ most_number) (ok_same e) (omega arith)) (λ y e. ok_err (sym e)))
-    (λ f. or_small may spot v (number_of bs) (number_small bs))
+value_small bs may spot v e = let k = or_small may spot v (number_of bs) (number_small bs) in grind (arith, nat_tests)
 
 set_small : (xs : List ℕ) (k v : ℕ) → Small xs → v ≤ most_number → Small (set xs k v)
 set_small [] k v h l = h
@@ -36,7 +34,7 @@ zeros_small (suc n) = (omega arith, zeros_small n)
 
 and_small : (r : Result ℕ CellFault) (k : ℕ → Result (List ℕ) RowFault) (vs : List ℕ) → ((v : ℕ) → r ≡ Ok v → k v ≡ Ok vs → Small vs) → and_cell r k ≡ Ok vs → Small vs
 and_small (Ok v) k vs h e = h v refl e
-and_small (Err f) k vs h e = ok_err (sym e)
+and_small (Err f) k vs h e = cc
 
 cells_small : (table : Table) (line : ℕ) (ks : List ℕ) (i : ℕ) (cs : List (List ℕ)) (acc vs : List ℕ) → Small acc → read_cells table line ks i cs acc ≡ Ok vs → Small vs
 cells_small table line [] i cs acc vs h e = subst Small (ok_same e) h
@@ -50,7 +48,7 @@ pub row_small : (table : Table) (line : ℕ) (columns : List ℕ) (cells : List 
 row_small table line columns cells vs =
     cond_both (eqb (length cells) (length columns)) _ _ (λ r. r ≡ Ok vs → Small vs)
     (λ t e. cells_small table line columns 1 cells (replicate (length columns) 0) vs (zeros_small (length columns)) e)
-    (λ f e. ok_err (sym e))
+    (λ f e. cc)
 
 -- one value, by the place of its name
 pub at_small : (vs : List ℕ) (k : ℕ) → Small vs → get_or vs k 0 ≤ most_number

@@ -1,5 +1,5 @@
 -- What the next row says of the rows that are left.
-use Rattle.std.proofs.Common.{◌≡◌, ℕ, ◌+◌, ◌<◌, List, [], ◌∷◌, length, Some, None, Ok, Err, Option, Result, sym, refl, ap, arith}
+use Rattle.std.proofs.Common.{◌≡◌, ℕ, ◌+◌, ◌<◌, List, [], ◌∷◌, length, Some, None, Ok, Err, Result, refl, ap, arith}
 use Rattle.cells.specs.Cells.{cells}
 use Rattle.sheet_kinds.specs.Tables.{Table}
 use Rattle.sheet_kinds.specs.declared.fault.RowFault.{RowFault}
@@ -9,20 +9,8 @@ use Rattle.sheets.specs.Rows.{map_ok, read_row, by_place}
 use Rattle.sheets.specs.Sheets.{and_row, rows_from}
 use Rattle.sheets.specs.States.{Standing, next_row, line_less}
 
-pub ok_err : {A X E : Type 0} {x : X} {e : E} → ◌≡◌ {A = Result X E} (Ok x) (Err e) → A
-ok_err h = absurd (let z : ◌≡◌ {A = ℕ} 0 1 = cc in omega arith)
-
 pub ok_same : {X E : Type 0} {x y : X} → ◌≡◌ {A = Result X E} (Ok x) (Ok y) → x ≡ y
 ok_same h = cc
-
-err_same : {X E : Type 0} {x y : E} → ◌≡◌ {A = Result X E} (Err x) (Err y) → x ≡ y
-err_same h = cc
-
-none_some : {A X E : Type 0} {x : X} → ◌≡◌ {A = Result (Option X) E} (Ok None) (Ok (Some x)) → A
-none_some h = absurd (let z : ◌≡◌ {A = ℕ} 0 1 = cc in omega arith)
-
-some_same : {X E : Type 0} {x y : X} → ◌≡◌ {A = Result (Option X) E} (Ok (Some x)) (Ok (Some y)) → x ≡ y
-some_same h = cc
 
 -- the rows that a sheet has left
 abbrev pub rows_left : Table → Standing → Result (List (List ℕ)) SheetFault
@@ -40,27 +28,27 @@ pub record Handed {R : Type 0} (table : Table) (row_of : (ℕ → ℕ) → R) (s
 
 module _ {R : Type 0} (table : Table) (row_of : (ℕ → ℕ) → R) (line : ℕ) (columns : List ℕ) where
   by_none : (ls : List (List ℕ)) (l : List ℕ) (r : Result (List ℕ) RowFault) → Ok None ≡ map_ok (λ v. Some (row_of (by_place v))) r → l ∷ ls ≡ []
-  by_none ls l (Ok v) e = none_some e
-  by_none ls l (Err f) e = ok_err e
+  by_none ls l (Ok v) e = cc
+  by_none ls l (Err f) e = cc
 
   none_of : (ls : List (List ℕ)) → Ok None ≡ next_row table row_of (record { left = ls; line = line; columns = columns }) → ls ≡ []
   none_of [] e = refl
   none_of (l ∷ ls) e = by_none ls l (read_row table line columns (cells l)) e
 
   by_err : (e : RowFault) (r : Result (List ℕ) RowFault) (k : List ℕ → Result (List (List ℕ)) SheetFault) → Err e ≡ map_ok (λ v. Some (row_of (by_place v))) r → and_row r k ≡ Err (Row e)
-  by_err e (Ok v) k h = ok_err (sym h)
-  by_err e (Err f) k h = ap (λ x. Err (Row x)) (sym (err_same h))
+  by_err e (Ok v) k h = cc
+  by_err e (Err f) k h = cc
 
   fault_of : (ls : List (List ℕ)) (e : RowFault) → Err e ≡ next_row table row_of (record { left = ls; line = line; columns = columns }) → rows_from table columns line ls ≡ Err (Row e)
-  fault_of [] e h = ok_err (sym h)
+  fault_of [] e h = cc
   fault_of (l ∷ ls) e h = by_err e (read_row table line columns (cells l)) _ h
 
   by_row : (row : R) (r : Result (List ℕ) RowFault) → Ok (Some row) ≡ map_ok (λ v. Some (row_of (by_place v))) r → (v : List ℕ) × (r ≡ Ok v) × (row ≡ row_of (by_place v))
-  by_row row (Ok v) h = (v, refl, some_same h)
-  by_row row (Err f) h = ok_err h
+  by_row row (Ok v) h = (v, refl, cc)
+  by_row row (Err f) h = cc
 
   row_of_left : (ls : List (List ℕ)) (row : R) → Ok (Some row) ≡ next_row table row_of (record { left = ls; line = line; columns = columns }) → Handed table row_of (record { left = ls; line = line; columns = columns }) row
-  row_of_left [] row h = none_some (sym h)
+  row_of_left [] row h = cc
   row_of_left (l ∷ ls) row h =
       let p = by_row row (read_row table line columns (cells l)) h in
       record {

@@ -1,13 +1,14 @@
 -- Written text cut into its lines and cells again, and written digits read again.
 use Rattle.std.proofs.Common.{◌≡◌, ℕ, zero, suc, ◌+◌, ◌-◌, ◌*◌, ◌^◌, ◌<◌, ◌≤◌, true, false, ◌&&◌, eqb, ltb, leb, List, [], ◌∷◌, ◌++◌, map, length, get_or, Some, None, decimal, refl, ap, ◌∙◌, ⊎_elim, arith}
-use Rattle.cells.specs.Cells.{cells, lines, onto, comma, line_feed}
-use Rattle.cells.specs.Numbers.{number, empty, meaning, number_or_other, digits_after, most_number}
+use Rattle.cells.specs.Cells.{cells, lines, comma, line_feed}
+use Rattle.cells.specs.Numbers.{number, meaning, digits_after, most_number}
 use Rattle.sheet_kinds.specs.Tables.{plain_name, plain_names}
 use Rattle.sheets.specs.Written.{after_first, with_commas}
 use Rattle.std.proofs.lemmas.Fmt.{digits_decimal, digits_value-decimal, length-decimal-le, decimal_nonempty, first_decimal}
 use Rattle.std.proofs.lemmas.List.{append-nil}
 use Rattle.std.proofs.lemmas.Str.Parse.{IsNumeralModel, numerals_by_fold}
-use Rattle.std.proofs.lemmas.Bool.{cond-true, cond-false, cases_lt, and_parts, and_from, and_left, and_right, or_from, ne_eqb, le-leb, le-ltb, leb-true}
+use Rattle.std.proofs.lemmas.Bool.Decides.{nat_tests}
+use Rattle.std.proofs.lemmas.Bool.{cond-true, cases_lt, and_parts, and_from, le-leb, leb-true}
 use Rattle.std.specs.Int.{IsInRange}
 use Rattle.std.specs.List.{AllByRecursion as All}
 
@@ -26,15 +27,15 @@ both_all P (x ∷ xs) ys h k = (h.0, both_all P xs ys h.1 k)
 
 pub line_cut : (l rest : List ℕ) → Unbroken l → lines (l ++ line_feed ∷ rest) ≡ l ∷ lines rest
 line_cut [] rest h = refl
-line_cut (b ∷ bs) rest h = cond-false _ _ _ (ne_eqb b 10 (λ z. omega (arith, h.0, z))) ∙ ap (onto b) (line_cut bs rest h.1)
+line_cut (b ∷ bs) rest h = let low = h.0 in let r = line_cut bs rest h.1 in grind (arith, nat_tests)
 
 cell_cut : (c rest : List ℕ) → Clean c → cells (c ++ comma ∷ rest) ≡ c ∷ cells rest
 cell_cut [] rest h = refl
-cell_cut (b ∷ bs) rest h = cond-false _ _ _ (ne_eqb b 44 (λ z. omega (arith, h.0.0, z))) ∙ ap (onto b) (cell_cut bs rest h.1)
+cell_cut (b ∷ bs) rest h = let low = h.0.0 in let r = cell_cut bs rest h.1 in grind (arith, nat_tests)
 
 one_cell : (c : List ℕ) → Clean c → cells c ≡ c ∷ []
 one_cell [] h = refl
-one_cell (b ∷ bs) h = cond-false _ _ _ (ne_eqb b 44 (λ z. omega (arith, h.0.0, z))) ∙ ap (onto b) (one_cell bs h.1)
+one_cell (b ∷ bs) h = let low = h.0.0 in let r = one_cell bs h.1 in grind (arith, nat_tests)
 
 first_and_rest : (c : List ℕ) (cs : List (List ℕ)) → Clean c → All Clean cs → cells (c ++ after_first cs) ≡ c ∷ cs
 first_and_rest c [] h hs = ap cells (append-nil c) ∙ one_cell c h
@@ -112,14 +113,15 @@ module _ (n : ℕ) (small : n ≤ most_number) where
   no_zero : (eqb (get_or (decimal n) 0 0) 48 && ltb 1 (length (decimal n))) ≡ false
   no_zero =
       ⊎_elim
-      (λ zero-only. and_right (eqb (get_or (decimal n) 0 0) 48) _ (le-ltb 1 (length (decimal n)) (length-decimal-le 1 n (omega arith) (omega arith) fits)))
-      (λ more. and_left _ _ (ne_eqb (get_or (decimal n) 0 0) 48 (λ z. omega (arith, z, first_decimal n (omega arith) fits))))
+      (λ zero-only. let short = length-decimal-le 1 n (omega arith) (omega arith) fits in grind (arith, nat_tests))
+      (λ more. let first = first_decimal n (omega arith) fits in grind (arith, nat_tests))
       (cases_lt n 1)
 
   -- the digits of a number mean that number
   pub means_back : meaning (decimal n) ≡ number n
   means_back =
-      let some : eqb (length (decimal n)) 0 ≡ false = ne_eqb (length (decimal n)) 0 (λ z. omega (arith, z, decimal_nonempty n fits)) in
-      let few : ltb 10 (length (decimal n)) ≡ false = le-ltb 10 (length (decimal n)) (length-decimal-le 10 n (omega arith) (omega arith) fits) in
+      let some = decimal_nonempty n fits in
+      let few = length-decimal-le 10 n (omega arith) (omega arith) fits in
+      let zero = no_zero in
       let read : digits_after 0 (decimal n) ≡ Some n = digits_read 0 (decimal n) (digits_decimal own n fits) ∙ ap Some (digits_value-decimal own n fits) in
-      cond-false _ empty _ some ∙ ap number_or_other (cond-false _ None _ (or_from _ _ some few) ∙ cond-false _ None _ no_zero ∙ read)
+      grind (arith, nat_tests)

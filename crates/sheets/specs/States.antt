@@ -1,10 +1,13 @@
 -- What the states of a sheet stand for. Assumes nothing.
 use Rattle.std.specs.Prelude.{ℕ, ◌+◌, List, [], ◌∷◌, drop, Some, None, Ok, Err, Option, Result}
 use Rattle.cells.specs.Cells.{cells, lines}
+use Rattle.cells.specs.Left.{first_cells, others}
 use Rattle.sheet_kinds.specs.Tables.{Table}
 use Rattle.sheet_kinds.specs.declared.fault.RowFault.{RowFault}
+use Rattle.sheet_kinds.specs.declared.fault.SheetFault.{SheetFault}
 use Rattle.sheets.specs.Listed.{column_list}
 use Rattle.sheets.specs.Rows.{map_ok, read_row, by_place}
+use Rattle.sheets.specs.Sheets.{and_then, sheet_lines, names_columns}
 use Rattle.sheets.specs.declared.states.NamedSheet.{NamedSheet}
 use Rattle.sheets.specs.declared.states.UnnamedSheet.{UnnamedSheet}
 
@@ -20,6 +23,11 @@ pub record Standing : Type 0 where
 
 abbrev pub standing : NamedSheet → Standing
 standing s = record { left = lines (drop s.at s.bytes.now); line = s.line; columns = column_list s.columns }
+
+-- a sheet at its first line of values, or its first fault so far
+abbrev pub opened : Table → List ℕ → Result Standing SheetFault
+opened table bs =
+    and_then (sheet_lines table.number bs) (λ ls. map_ok (λ columns. record { left = others ls; line = 2; columns = columns }) (names_columns table (first_cells ls)))
 
 -- the row of the next line, if one is left
 abbrev pub next_row : {R : Type 0} → Table → ((ℕ → ℕ) → R) → Standing → Result (Option R) RowFault

@@ -1,16 +1,15 @@
 //! The moves from state to state.
 ghost use Rattle.std.specs.Prelude.{◌≡◌, ℕ, ◌-◌};
-ghost use Rattle.cells.specs.Cells.{lines};
 ghost use Rattle.cells.specs.Left.{others, first_cells};
 ghost use Rattle.sheets.specs.Listed.{column_list};
 ghost use Rattle.sheets.specs.Names.{AnyOrder};
 ghost use Rattle.sheets.specs.Rows.{map_ok};
 ghost use Rattle.sheets.specs.Sheets.{mark_len, opening, sheet_lines, names_columns};
-ghost use Rattle.sheets.specs.States.{lines_of, standing, next_row, after_row};
+ghost use Rattle.sheets.specs.States.{lines_of, opened, standing, next_row, after_row};
 
 use crate::columns::Columns;
 use crate::names::{columns_of, line_after};
-use crate::row::{read_row, whole_row};
+use crate::row::read_row;
 use crate::states::{EndedSheet, NamedSheet, UnnamedSheet};
 use cells::LineCells;
 use sheet_kinds::{RowFault, SheetFault, SheetKind};
@@ -22,10 +21,9 @@ const MOST_BYTES: usize = 65536;
 fn mark_len(bytes: &[u8]) -> usize
     ensures answer { result ≡ mark_len bytes.now }
 {
-    if bytes.len() >= 3 && bytes[0] == 0xEF && bytes[1] == 0xBB && bytes[2] == 0xBF {
-        3
-    } else {
-        0
+    match bytes {
+        [0xEF, 0xBB, 0xBF, ..] => 3,
+        _ => 0,
     }
 }
 
@@ -33,17 +31,13 @@ fn mark_len(bytes: &[u8]) -> usize
 fn check_bytes(bytes: &[u8], sheet: u8) -> Result<usize, SheetFault>
     ensures answer { result ≡ opening sheet bytes.now }
 {
-    let n = bytes.len();
-    if n > MOST_BYTES {
+    if bytes.len() > MOST_BYTES {
         return Err(SheetFault::Long(sheet));
     }
-    if n == 0 {
-        return Err(SheetFault::Unended(sheet));
+    match bytes {
+        [.., b'\n'] => Ok(mark_len(bytes)),
+        _ => Err(SheetFault::Unended(sheet)),
     }
-    if bytes[n - 1] != b'\n' {
-        return Err(SheetFault::Unended(sheet));
-    }
-    Ok(mark_len(bytes))
 }
 
 impl<'a> UnnamedSheet<'a> {
@@ -51,10 +45,8 @@ impl<'a> UnnamedSheet<'a> {
     pub fn begin<K: SheetKind>(kind: &K, bytes: &'a [u8]) -> Result<UnnamedSheet<'a>, SheetFault>
         ensures answer { map_ok lines_of result ≡ sheet_lines K.SheetKind.table.number bytes.now }
     {
-        match check_bytes(bytes, kind.sheet()) {
-            Ok(at) => Ok(UnnamedSheet { bytes, at }),
-            Err(fault) => Err(fault),
-        }
+        let at = check_bytes(bytes, kind.sheet())?;
+        Ok(UnnamedSheet { bytes, at })
     }
 
     /// The columns that the names give, where they are those of the kind, once each.
@@ -62,10 +54,7 @@ impl<'a> UnnamedSheet<'a> {
         ensures answer { map_ok column_list result ≡ names_columns K.SheetKind.table (first_cells (lines_of self.now)) }
         ensures law { AnyOrder K.SheetKind.table.names }
     {
-        match columns_of(kind, self.bytes, self.at) {
-            Some(columns) => Ok(columns),
-            None => Err(SheetFault::Names(kind.sheet())),
-        }
+        columns_of(kind, LineCells::new(self.bytes, self.at)).ok_or(SheetFault::Names(kind.sheet()))
     }
 
     /// Goes on to the lines of values.
@@ -82,6 +71,15 @@ impl<'a> UnnamedSheet<'a> {
 }
 
 impl<'a> NamedSheet<'a> {
+    /// A sheet at its first line of values, where its bytes and its names have no fault.
+    pub fn open<K: SheetKind>(kind: &K, bytes: &'a [u8]) -> Result<NamedSheet<'a>, SheetFault>
+        ensures answer { map_ok standing result ≡ opened K.SheetKind.table bytes.now }
+    {
+        let unnamed = UnnamedSheet::begin(kind, bytes)?;
+        let columns = unnamed.check_names(kind)?;
+        Ok(unnamed.named(columns))
+    }
+
     /// Takes the next line, as a row; none is left at the end. A line with a fault stays the next one.
     pub fn next_row<K: SheetKind>(&mut self, kind: &K) -> Result<Option<K::Row>, RowFault>
         ensures answer { result ≡ next_row K.SheetKind.table K.SheetKind.row_of (standing self.old) }
@@ -91,31 +89,23 @@ impl<'a> NamedSheet<'a> {
         if !cells.has_cell() {
             return Ok(None);
         }
-        if let Some(row) = whole_row(kind, &self.columns, &mut cells) {
-            self.at = cells.next_line();
-            self.line += 1;
-            return Ok(Some(row));
-        }
-        // The line has a fault, and is read once more for its place.
-        let mut again = LineCells::new(self.bytes, self.at);
-        match read_row(kind, &self.columns, &mut again, self.line) {
-            Ok(_) => unreachable(),
-            Err(fault) => Err(fault),
-        }
+        let row = read_row(kind, &self.columns, &mut cells, self.line)?;
+        self.at = cells.next_line();
+        self.line += 1;
+        Ok(Some(row))
     }
 
     /// Ends the sheet.
-    pub fn ended(self) -> EndedSheet<'a>
+    pub fn ended(self) -> EndedSheet
         ensures after { result.rows ≡ (standing self.entry).line - 2 }
     {
         EndedSheet {
-            bytes: self.bytes,
             rows: self.line - 2,
         }
     }
 }
 
-impl<'a> EndedSheet<'a> {
+impl EndedSheet {
     /// How many rows were taken.
     pub fn rows(&self) -> usize
         ensures answer { result ≡ self.now.rows }

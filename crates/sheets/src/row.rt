@@ -4,41 +4,13 @@ ghost use Rattle.cells.specs.Cells.{texts};
 ghost use Rattle.cells.specs.Left.{cells_left, SameSheet};
 ghost use Rattle.sheets.specs.Listed.{column_list};
 ghost use Rattle.sheets.specs.Rows.{read_row, map_ok, by_place};
-ghost use Rattle.std.specs.Result.{result_ok};
 
 use crate::columns::Columns;
-use crate::values::{RowValues, value_in, value_of};
+use crate::values::{RowValues, value_of};
 use cells::LineCells;
 use sheet_kinds::{MOST_NAMES, RowFault, SheetKind, Spot};
 
-/// The row of the cells that are left, where they are as many as the columns and each has a value.
-pub(crate) fn whole_row<K: SheetKind>(
-    kind: &K,
-    columns: &Columns,
-    cells: &mut LineCells,
-) -> Option<K::Row>
-    ensures answer { (number : ℕ) → result ≡ result_ok (map_ok (λ v. K.SheetKind.row_of (by_place v)) (read_row K.SheetKind.table number (column_list columns.now) (texts (cells_left cells.old)))) }
-    ensures same { SameSheet cells.old cells.new }
-{
-    let n = columns.len;
-    let mut values = [0u64; MOST_NAMES];
-    for i in 0..n {
-        let Some(cell) = cells.next_cell() else {
-            return None;
-        };
-        let k = columns.at[i];
-        let Some(value) = value_in(cell, kind.may_be_empty(k)) else {
-            return None;
-        };
-        values[k] = value;
-    }
-    if cells.has_cell() {
-        return None;
-    }
-    Some(kind.row(&values))
-}
-
-/// The row of the cells that are left of the line `number`.
+/// The row of the cells that are left of the line `number`, where they are as many as the columns and each has a value.
 pub(crate) fn read_row<K: SheetKind>(
     kind: &K,
     columns: &Columns,
@@ -49,31 +21,25 @@ pub(crate) fn read_row<K: SheetKind>(
     ensures same { SameSheet cells.old cells.new }
 {
     let sheet = kind.sheet();
-    let n = columns.len;
+    let miscounted = RowFault::Count {
+        sheet,
+        line: number,
+    };
     let mut values = RowValues {
-        at: [0u64; MOST_NAMES],
+        at: [0; MOST_NAMES],
         first: Ok(()),
     };
-    for i in 0..n {
-        let Some(cell) = cells.next_cell() else {
-            return Err(RowFault::Count {
-                sheet,
-                line: number,
-            });
-        };
-        let k = columns.at[i];
+    for (i, column) in columns.places().iter().enumerate() {
+        let cell = cells.next_cell().ok_or(miscounted)?;
         let spot = Spot {
             sheet,
             line: number,
             cell: i + 1,
         };
-        values.put(k, value_of(cell, kind.may_be_empty(k), spot));
+        values.put(*column, value_of(cell, kind.may_be_empty(*column), spot));
     }
     if cells.has_cell() {
-        return Err(RowFault::Count {
-            sheet,
-            line: number,
-        });
+        return Err(miscounted);
     }
     values.first?;
     Ok(kind.row(&values.at))

@@ -24,7 +24,6 @@ pub struct NamedSheet<'a> {
 
 /// A sheet from which no more lines are taken.
 #[derive(Drop)]
-pub struct EndedSheet<'a> {
-    pub(crate) bytes: &'a [u8],
+pub struct EndedSheet {
     pub(crate) rows: usize,
 }

@@ -3,8 +3,6 @@ ghost use Rattle.std.specs.Prelude.{◌≡◌, ℕ, ◌<◌};
 ghost use Rattle.cells.specs.Shown.{shown};
 ghost use Rattle.sheets.specs.Rows.{value_of};
 ghost use Rattle.sheets.specs.Values.{put_value};
-ghost use Rattle.sheet_kinds.specs.declared.fault.Spot.{Spot as SpotShown};
-ghost use Rattle.std.specs.Result.{result_ok};
 
 use cells::Cell;
 use sheet_kinds::{CellCause, CellFault, MOST_NAMES, Spot};
@@ -23,23 +21,8 @@ impl RowValues {
     {
         match value {
             Ok(v) => self.at[column] = v,
-            Err(fault) => {
-                if self.first.is_ok() {
-                    self.first = Err(fault);
-                }
-            }
+            Err(fault) => self.first = self.first.and(Err(fault)),
         }
-    }
-}
-
-/// The number in a cell; 0 in an empty one that may be.
-pub(crate) fn value_in(cell: Cell, may: bool) -> Option<u64>
-    ensures answer { (spot : SpotShown) → result ≡ result_ok (value_of (shown cell.entry).means may spot) }
-{
-    match cell {
-        Cell::Number(_, value) => Some(value),
-        Cell::Empty(_) => { if may { Some(0) } else { None } }
-        Cell::Other(_) => None,
     }
 }
 
@@ -47,21 +30,11 @@ pub(crate) fn value_in(cell: Cell, may: bool) -> Option<u64>
 pub(crate) fn value_of(cell: Cell, may: bool, spot: Spot) -> Result<u64, CellFault>
     ensures answer { result ≡ value_of (shown cell.entry).means may spot }
 {
-    match cell {
-        Cell::Number(_, value) => Ok(value),
-        Cell::Empty(_) => {
-            if may {
-                Ok(0)
-            } else {
-                Err(CellFault {
-                    spot,
-                    cause: CellCause::Empty,
-                })
-            }
-        }
-        Cell::Other(_) => Err(CellFault {
-            spot,
-            cause: CellCause::NotNumber,
-        }),
-    }
+    let cause = match cell {
+        Cell::Number(_, value) => return Ok(value),
+        Cell::Empty(_) if may => return Ok(0),
+        Cell::Empty(_) => CellCause::Empty,
+        Cell::Other(_) => CellCause::NotNumber,
+    };
+    Err(CellFault { spot, cause })
 }

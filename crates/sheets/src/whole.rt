@@ -5,16 +5,14 @@ ghost use Rattle.sheets.specs.Small.{SmallRows};
 ghost use Rattle.sheets.specs.Written.{ReadsBack};
 ghost use Rattle.std.specs.Prelude.{◌≡◌, length, IfOk};
 
-use crate::states::UnnamedSheet;
+use crate::states::NamedSheet;
 use sheet_kinds::{SheetFault, SheetKind};
 
 /// The count of a sheet's rows, line after line.
 fn counted<K: SheetKind>(kind: &K, bytes: &[u8]) -> Result<usize, SheetFault>
     ensures answer { result ≡ map_ok length (sheet_rows K.SheetKind.table bytes.now) }
 {
-    let unnamed = UnnamedSheet::begin(kind, bytes)?;
-    let columns = unnamed.check_names(kind)?;
-    let mut sheet = unnamed.named(columns);
+    let mut sheet = NamedSheet::open(kind, bytes)?;
     while let Some(_row) = sheet.next_row(kind)? {}
     Ok(sheet.ended().rows())
 }

@@ -1,24 +1,16 @@
 -- The place of a name.
-use Rattle.std.proofs.Common.{ℕ, List, map, ap, arith, Bor}
-use Rattle.std.proofs.lemmas.Slice.Eq.{slice_eq-Decides}
-use Rattle.std.proofs.lemmas.List.{drop_all}
-use Rattle.sheets.specs.Columns.{index_of}
-use Rattle.sheets.proofs.Indexes.{index_at, index_on}
+use Rattle.std.proofs.Common.{◌∙◌, ℕ, List, Bor, rules, tests}
+use Rattle.sheets.proofs.Indexes.{position_in}
 use Rattle.sheets.proofs.names.index_of.Goals as goal
-use Rattle.std.proofs.lemmas.Bool.Decides.{Decides-eqb}
+use Rattle.std.proofs.lemmas.Iterator.Search.{position_from_yields_List}
+use Rattle.std.proofs.lemmas.Iterator.{YieldsList-from_slice}
+use Rattle.std.specs.Str.{bytes_eq}
 
 abbrev text : Bor (List ℕ) → List ℕ
 text x = x.now
 
-pub returns-then-eq : goal.returns-then-eq
-returns-then-eq c =
-    let e = index_at text c.args.names.now c.args.name.now c.loop-i.i _ c.eq.result c.loop-i-test.true (slice_eq-Decides Decides-eqb _ _ _ c.eq.ensures) c.if-eq.true in
-    record { answer = omega (arith, c.loop-i.invariant, e) }
-
-pub loop-i-preserved : goal.loop-i-preserved
-loop-i-preserved c =
-    let e = index_on text c.args.names.now c.args.name.now c.loop-i.i _ c.eq.result c.loop-i-test.true (slice_eq-Decides Decides-eqb _ _ _ c.eq.ensures) c.if-eq.false in
-    omega (arith, c.loop-i.invariant, e)
-
 pub returns : goal.returns
-returns c = record { answer = omega (arith, c.loop-i.invariant, ap (λ l. index_of (map text l) c.args.name.now) (drop_all c.loop-i.i c.args.names.now c.loop-i-test.false)) }
+returns c =
+    let ns = c.args.names.now in
+    let name = c.args.name.now in
+    record { answer = position_from_yields_List (λ n. bytes_eq (text n) name) _ _ _ c.position.ensures.ran (YieldsList-from_slice ns cc) (λ x b q k. search (rules, tests)) ∙ position_in text (λ n. bytes_eq n name) ns }

@@ -7,5 +7,5 @@ use Rattle.sheets.specs.Listed.{column_list}
 
 abbrev pub invariant-loop-i : goal.invariant-loop-i
 invariant-loop-i g l =
-    Reading g.K.SheetKind.table l.number (column_list l.columns) (texts (cells_left l.initial.cells)) (texts (cells_left l.cells)) l.n l.i l.values
+    Reading g.K.SheetKind.table l.number (column_list l.columns) (texts (cells_left l.initial.cells)) (texts (cells_left l.cells)) l.columns.len l.i l.values
     × SameSheet l.initial.cells l.cells

@@ -1,5 +1,5 @@
 //! The three sheets, tested whole in their order.
-ghost use Rattle.settle_day.specs.Tested.{tested};
+ghost use Rattle.sheet_files.specs.Tested.{tested};
 ghost use Rattle.std.specs.Prelude.{◌≡◌};
 
 use sheet_kinds::{Grid, Members, Readings, SheetFault};

@@ -4,7 +4,7 @@ use Rattle.sheet_kinds.specs.Tables.{members, grid, readings}
 use Rattle.sheet_kinds.specs.declared.fault.SheetFault.{SheetFault}
 use Rattle.sheets.specs.Rows.{map_ok}
 use Rattle.sheets.specs.Sheets.{and_then, sheet_rows}
-use Rattle.settle_day.specs.declared.tested.Counts.{Counts}
+use Rattle.sheet_files.specs.declared.tested.Counts.{Counts}
 
 -- the counts of their rows, or the first fault of the first sheet that has one
 abbrev pub tested : List ℕ → List ℕ → List ℕ → Result Counts SheetFault

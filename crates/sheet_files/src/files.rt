@@ -13,12 +13,7 @@ pub fn sheet_bytes(rt: &HostRuntime, name: &str) -> io::Result<Vec<u8>> {
             file.take(MOST_READ).read_to_end(&mut bytes)?;
             Ok(bytes)
         }
-        Err(error) => {
-            if error.kind() == ErrorKind::NotFound {
-                Ok(bytes)
-            } else {
-                Err(error)
-            }
-        }
+        Err(error) if error.kind() == ErrorKind::NotFound => Ok(bytes),
+        Err(error) => Err(error),
     }
 }

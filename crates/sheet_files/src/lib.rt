@@ -1,0 +1,10 @@
+//! The three sheets of a folder: their bytes, the test of them all, and what ends the work on them.
+#![tactic(auto)]
+
+mod files;
+mod stop;
+mod tested;
+
+pub use files::sheet_bytes;
+pub use stop::{Stop, print_stop};
+pub use tested::{Counts, test_sheets};
