@@ -6,7 +6,7 @@ ghost use Rattle.std.specs.Prelude.{◌≡◌, ℤ, Some};
 use std::fmt;
 
 /// Other crates read the count to answer and to print it, and get money from named products alone.
-#[derive(Clone, Copy, PartialEq, PartialOrd)]
+#[derive(Clone, Copy, PartialEq, Eq, PartialOrd, Ord, Default)]
 pub struct Paise {
     pub(crate) paise: i64,
 }
