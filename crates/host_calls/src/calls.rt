@@ -8,7 +8,7 @@ ghost use Rattle.std.specs.Prelude.{◌≡◌, ◌&&◌};
 use crate::room::put;
 use day::Record;
 use house::house;
-use journal::{Answer, Call, begin, perform};
+use journal::{Answer, Call, Reply, begin, perform};
 use parting::{LargestRemainder, PartingRule};
 use pool::Pool;
 use tariff::Tariff;
@@ -23,10 +23,7 @@ const MOST_COUNT: usize = 9_223_372_036_854_775_807;
 fn lent(room: i64) -> usize
     ensures answer { result ≡ lending room }
 {
-    match usize::try_from(room) {
-        Ok(room) => room,
-        Err(_) => 0,
-    }
+    usize::try_from(room).unwrap_or(0)
 }
 
 /// The call of these numbers, none where no call has the code.
@@ -73,10 +70,10 @@ fn put_answer(into: &mut [i64], at: usize, answer: Answer) -> usize
     ensures answer { put_numbers (room_at into.old at) (answer_numbers answer) ≡ room_at into.new result }
 {
     let (sort, number) = match answer {
-        Answer::Done => (0, 0),
-        Answer::Enrolled(member) => (1, member.min(MOST_COUNT) as i64),
-        Answer::Sum(sum) => (2, sum.count()),
-        Answer::Refused(refusal) => (3, refusal.number()),
+        Ok(Reply::Done) => (0, 0),
+        Ok(Reply::Enrolled(member)) => (1, member.min(MOST_COUNT) as i64),
+        Ok(Reply::Sum(sum)) => (2, sum.count()),
+        Err(refusal) => (3, refusal.number()),
     };
     let at = put(into, at, sort);
     put(into, at, number)
@@ -105,29 +102,14 @@ fn put_records(into: &mut [i64], at: usize, records: &[Record]) -> usize
 fn is_close(call: Call) -> bool
     ensures answer { result ≡ closed_by (deed call).marks }
 {
-    match call {
-        Call::Close { .. } => true,
-        Call::Enrol { .. }
-        | Call::Open { .. }
-        | Call::GridRow { .. }
-        | Call::Reading { .. }
-        | Call::Amount { .. }
-        | Call::DropDay
-        | Call::PayIn { .. }
-        | Call::PayOut { .. }
-        | Call::Account { .. }
-        | Call::Cash => false,
-    }
+    matches!(call, Call::Close { .. })
 }
 
 /// Whether a call with this answer closed a day.
 fn closes(call: Call, answer: Answer) -> bool
     ensures answer { result ≡ (accepted answer && closed_by (deed call).marks) }
 {
-    match answer {
-        Answer::Refused(_) => false,
-        Answer::Done | Answer::Enrolled(_) | Answer::Sum(_) => is_close(call),
-    }
+    answer.is_ok() && is_close(call)
 }
 
 /// The place after the answer to a call, and after the records of the day that it closed.
