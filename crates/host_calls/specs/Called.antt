@@ -1,5 +1,5 @@
 -- Calls and answers as numbers. Assumes nothing.
-use Rattle.std.specs.Prelude.{◌≡◌, ℕ, min, cond, List, [], ◌∷◌, ℤ, pos, negsuc, Some, None, Option, ◌==◌}
+use Rattle.std.specs.Prelude.{◌≡◌, ℕ, min, cond, List, [], ◌∷◌, ℤ, pos, negsuc, Some, None, Option, Ok, Err, Result, ◌==◌}
 use Rattle.day.specs.declared.record.Record.{Record}
 use Rattle.facts.specs.Facts.{Facts}
 use Rattle.host_calls.specs.Filled.{Room, put_numbers, put_rows}
@@ -7,11 +7,12 @@ use Rattle.journal.specs.Law.{Stands}
 use Rattle.journal.specs.Words.{closed_day}
 use Rattle.journal.specs.declared.entry.Entry.{Entry}
 use Rattle.pool.specs.declared.book.Book.{Book}
-use Rattle.journal.specs.declared.answer.Answer.TheVariants.{Done, Enrolled, Sum, Refused}
-use Rattle.journal.specs.declared.answer.Answer.{Answer}
+use Rattle.journal.specs.declared.answer.Reply.TheVariants.{Done, Enrolled, Sum}
+use Rattle.journal.specs.declared.answer.Reply.{Reply}
 use Rattle.journal.specs.declared.call.Call.TheVariants.{Enrol, Open, GridRow, Reading, Amount, Close, DropDay, PayIn, PayOut, Account, Cash}
 use Rattle.journal.specs.declared.call.Call.{Call}
 use Rattle.pool.specs.Refusals.{refusal_number}
+use Rattle.pool.specs.declared.refusal.Refusal.{Refusal}
 
 -- the records that a close lends
 abbrev pub lending : ℤ → ℕ
@@ -27,11 +28,11 @@ coded_call (pos n) a b c d e =
     (cond (n == 9) (Some (PayOut a b)) (cond (n == 10) (Some (Account a)) (cond (n == 11) (Some Cash) None))))))))))
 
 -- an answer as two numbers
-abbrev pub answer_numbers : Answer → List ℤ
-answer_numbers Done = pos 0 ∷ pos 0 ∷ []
-answer_numbers (Enrolled n) = pos 1 ∷ pos (min n 9223372036854775807) ∷ []
-answer_numbers (Sum s) = pos 2 ∷ s.paise ∷ []
-answer_numbers (Refused r) = pos 3 ∷ pos (refusal_number r) ∷ []
+abbrev pub answer_numbers : Result Reply Refusal → List ℤ
+answer_numbers (Ok Done) = pos 0 ∷ pos 0 ∷ []
+answer_numbers (Ok (Enrolled n)) = pos 1 ∷ pos (min n 9223372036854775807) ∷ []
+answer_numbers (Ok (Sum s)) = pos 2 ∷ s.paise ∷ []
+answer_numbers (Err r) = pos 3 ∷ pos (refusal_number r) ∷ []
 
 abbrev pub record_numbers : Record → List ℤ
 record_numbers r = r.base.paise ∷ r.surcharge.paise ∷ r.line.paise ∷ []

@@ -8,7 +8,7 @@ ghost use Rattle.std.specs.Prelude.{◌≡◌, ◌&&◌};
 use crate::room::{Room, held};
 use day::Record;
 use house::house;
-use journal::{Answer, Call, begin, perform};
+use journal::{Answer, Call, Reply, begin, perform};
 use parting::{LargestRemainder, PartingRule};
 use pool::Pool;
 use tariff::Tariff;
@@ -68,10 +68,10 @@ fn put_answer(room: &mut Room<i64>, answer: Answer)
     ensures same { SamePlace room.old room.new }
 {
     let (sort, number) = match answer {
-        Answer::Done => (0, 0),
-        Answer::Enrolled(member) => (1, held(member)),
-        Answer::Sum(sum) => (2, sum.count()),
-        Answer::Refused(refusal) => (3, refusal.number()),
+        Ok(Reply::Done) => (0, 0),
+        Ok(Reply::Enrolled(member)) => (1, held(member)),
+        Ok(Reply::Sum(sum)) => (2, sum.count()),
+        Err(refusal) => (3, refusal.number()),
     };
     room.put(sort);
     room.put(number);
@@ -107,10 +107,7 @@ fn is_close(call: Call) -> bool
 fn closes(call: Call, answer: Answer) -> bool
     ensures answer { result ≡ (accepted answer && closed_by (deed call).marks) }
 {
-    match answer {
-        Answer::Refused(_) => false,
-        Answer::Done | Answer::Enrolled(_) | Answer::Sum(_) => is_close(call),
-    }
+    answer.is_ok() && is_close(call)
 }
 
 /// Performs a call, and writes its answer, and the records of the day that it closed.

@@ -26,7 +26,7 @@ use Rattle.journal.specs.Answers.{done, numbered, summed, answer_in}
 use Rattle.journal.specs.Law.{Stands}
 use Rattle.journal.specs.Steps.{outcome}
 use Rattle.journal.specs.Words.{kinds_in, kind_named, open_in, grid_in, member_in, members_in, last_grid, last_reading, owed_by}
-use Rattle.journal.specs.declared.answer.Answer.TheVariants.{Sum}
+use Rattle.journal.specs.declared.answer.Reply.TheVariants.{Sum}
 use Rattle.journal.specs.declared.call.Call.{Call}
 use Rattle.journal.specs.declared.call.Call.TheVariants.{Enrol, Open, GridRow, Reading, Amount, Close, DropDay, PayIn, PayOut, Account, Cash}
 use Rattle.journal.specs.declared.entry.Entry.{Entry}
@@ -129,4 +129,4 @@ module _ (m : Facts → ℤ) (g : ℕ → List ℕ → List ℕ) (J : List Entry
       (λ t z. summed (unless (not t) NotEnrolled (Ok (money z))))
       (sum_at b.accounts.table (nat_abs account)) (owed_by J (nat_abs account)) (λ u v. refl) (sum_known account)
       ∙ ap (λ n. summed (account_rule n account (owed_by J (nat_abs account)))) count_is
-  agrees Cash = ap (λ z. Sum (money z)) st.cash
+  agrees Cash = ap (λ z. Ok (Sum (money z))) st.cash

@@ -78,6 +78,10 @@ pub record Stands (m : Facts → ℤ) (g : ℕ → List ℕ → List ℕ) (J : L
   pub readings : (k i : ℕ) → k < most_members → i < blocks → slice_index_or (member_at b.members k).readings i None ≡ last_reading J k i
   pub amounts : (k : ℕ) → k < most_members → (member_at b.members k).amount ≡ last_amount J k
 
+-- whatever journal a pool with the book b stood after, with the book w it stands after these entries and that one
+abbrev pub Carries : (Facts → ℤ) → (ℕ → List ℕ → List ℕ) → Book → List Entry → Book → Type 0
+Carries m g b entries w = (J : List Entry) → Stands m g J b → Stands m g (entries ++ J) w
+
 -- The calls performed are the first of those given, as many as the journal has room for. Each is noted at its place, and
 -- the places beyond are as they were.
 pub record Noted (calls : List Call) (old journal : List Entry) (count : ℕ) : Type 0 where

@@ -8,13 +8,13 @@ use Rattle.pool.specs.Calls.{enrolling, enrolled_as, opening, opened_on, enterin
 use Rattle.pool.specs.declared.book.Book.{Book}
 use Rattle.pool.specs.declared.refusal.Refusal.{Refusal}
 use Rattle.journal.specs.Answers.{done, numbered, summed}
-use Rattle.journal.specs.declared.answer.Answer.{Answer}
+use Rattle.journal.specs.declared.answer.Reply.{Reply}
 use Rattle.journal.specs.declared.call.Call.{Call}
 use Rattle.journal.specs.declared.call.Call.TheVariants.{Enrol, Open, GridRow, Reading, Amount, Close, DropDay, PayIn, PayOut, Account, Cash}
 
 -- the answer, the book after the call, and what it leaves of the records that it was lent
 pub record Outcome : Type 0 where
-  pub answer : Answer
+  pub answer : Result Reply Refusal
   pub book : Book
   pub records : List Record → List Record
 

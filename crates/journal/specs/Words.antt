@@ -1,5 +1,5 @@
 -- Words for a journal, the newest entry first. Assumes nothing.
-use Rattle.std.specs.Prelude.{ℕ, Bool, true, false, cond, ◌&&◌, List, [], ◌∷◌, ◌++◌, map, reverse, length, ℤ, pos, ◌+ℤ◌, ◌-ℤ◌, Some, None, Option, ◌==◌, slice_index_or, unsigned_abs}
+use Rattle.std.specs.Prelude.{ℕ, Bool, true, false, cond, ◌&&◌, List, [], ◌∷◌, ◌++◌, map, reverse, length, ℤ, pos, ◌+ℤ◌, ◌-ℤ◌, Some, None, Option, Ok, Err, Result, ◌==◌, slice_index_or, unsigned_abs}
 use Rattle.std.specs.List.{range_with_len}
 use Rattle.quantities.specs.declared.paise.Paise.{Paise}
 use Rattle.member_day.specs.Entries.{blocks}
@@ -11,15 +11,13 @@ use Rattle.day.specs.declared.member.MemberKind.TheVariants.{Regional}
 use Rattle.day.specs.declared.record.Record.{Record}
 use Rattle.pool.specs.Standing.{line_at}
 use Rattle.journal.specs.Deeds.{Deed, Mark, Item, Payment, deed, opens, closes, drops, grid_row, reading, amount}
-use Rattle.journal.specs.declared.answer.Answer.{Answer}
-use Rattle.journal.specs.declared.answer.Answer.TheVariants.{Done, Enrolled, Sum, Refused}
+use Rattle.pool.specs.declared.refusal.Refusal.{Refusal}
+use Rattle.journal.specs.declared.answer.Reply.{Reply}
 use Rattle.journal.specs.declared.entry.Entry.{Entry}
 
-abbrev pub accepted : Answer → Bool
-accepted Done = true
-accepted (Enrolled n) = true
-accepted (Sum s) = true
-accepted (Refused r) = false
+abbrev pub accepted : Result Reply Refusal → Bool
+accepted (Ok reply) = true
+accepted (Err refusal) = false
 
 -- what all accepted calls did of one kind, the newest first
 abbrev pub all_of : {X : Type 0} → (Deed → List X) → List Entry → List X

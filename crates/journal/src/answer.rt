@@ -2,13 +2,16 @@
 use pool::Refusal;
 use quantities::Paise;
 
-#[derive(Clone, Copy)]
-pub enum Answer {
-    /// Accepted, with nothing to say.
+/// What an accepted call says.
+#[derive(Clone, Copy, PartialEq)]
+pub enum Reply {
+    /// Nothing.
     Done,
     /// The number of the member that was enrolled.
     Enrolled(usize),
     /// What a query asked for.
     Sum(Paise),
-    Refused(Refusal),
 }
+
+/// The reply of a call that was accepted, or what it was refused with.
+pub type Answer = Result<Reply, Refusal>;

@@ -1,6 +1,6 @@
 //! One call on a pool, with its numbers as they came.
 
-#[derive(Clone, Copy)]
+#[derive(Clone, Copy, PartialEq)]
 pub enum Call {
     Enrol {
         kind: i64,

@@ -4,7 +4,7 @@ use day::{RECORDS, Record};
 use pool::Accounts;
 use quantities::Paise;
 
-#[derive(Clone, Copy)]
+#[derive(Clone, Copy, PartialEq)]
 pub struct Entry {
     pub call: Call,
     pub answer: Answer,

@@ -7,8 +7,8 @@ mod entry;
 mod performing;
 mod runs;
 
-pub use answer::Answer;
+pub use answer::{Answer, Reply};
 pub use call::Call;
 pub use entry::Entry;
 pub use performing::perform;
-pub use runs::{begin, resume, run, run_two};
+pub use runs::{Supplier, begin, resume, run, run_two};

@@ -1,36 +1,21 @@
 //! One call performed on a pool, and noted.
-ghost use Rattle.std.specs.Prelude.{◌≡◌, ℕ, min, List, ◌∷◌, length};
+ghost use Rattle.std.specs.Prelude.{◌≡◌, [], ◌∷◌, length};
 ghost use Rattle.day.specs.Records.{record_count};
 ghost use Rattle.journal.specs.Answers.{done};
-ghost use Rattle.journal.specs.Law.{Stands, no_records};
-ghost use Rattle.journal.specs.Steps.{fills, outcome};
-ghost use Rattle.journal.specs.declared.entry.Entry.{Entry};
-ghost use Rattle.pool.specs.Calls.{closed_with, closing_of, records_of};
+ghost use Rattle.journal.specs.Law.{Carries};
+ghost use Rattle.journal.specs.Steps.{outcome};
+ghost use Rattle.pool.specs.Calls.{closing_of};
 
-use crate::{Answer, Call, Entry};
+use crate::{Answer, Call, Entry, Reply};
 use day::{RECORDS, Record};
 use parting::PartingRule;
 use pool::{Pool, Refusal};
-use quantities::Paise;
 use tariff::Tariff;
 
 fn done(res: Result<(), Refusal>) -> Answer
     ensures answer { result ≡ done res }
 {
-    match res {
-        Ok(()) => Answer::Done,
-        Err(refusal) => Answer::Refused(refusal),
-    }
-}
-
-fn no_records() -> [Record; RECORDS]
-    ensures answer { result ≡ no_records }
-{
-    [Record {
-        base: Paise::NOTHING,
-        surcharge: Paise::NOTHING,
-        line: Paise::NOTHING,
-    }; RECORDS]
+    res.map(|()| Reply::Done)
 }
 
 /// A close that lends so many records; seventeen are enough.
@@ -50,6 +35,7 @@ fn close<T: Tariff, R: PartingRule>(
     done(pool.close(&mut records[0..lent]))
 }
 
+/// One match over all calls: they are values, since a journal holds them.
 fn answer_to<T: Tariff, R: PartingRule>(
     pool: &mut Pool<T, R>,
     call: Call,
@@ -63,10 +49,7 @@ fn answer_to<T: Tariff, R: PartingRule>(
     ensures rule { pool.new.rule ≡ pool.old.rule }
 {
     match call {
-        Call::Enrol { kind } => match pool.enrol(kind) {
-            Ok(number) => Answer::Enrolled(number),
-            Err(refusal) => Answer::Refused(refusal),
-        },
+        Call::Enrol { kind } => pool.enrol(kind).map(Reply::Enrolled),
         Call::Open { day } => done(pool.open(day)),
         Call::GridRow {
             block,
@@ -85,22 +68,19 @@ fn answer_to<T: Tariff, R: PartingRule>(
         Call::DropDay => done(pool.discard()),
         Call::PayIn { account, paise } => done(pool.pay_in(account, paise)),
         Call::PayOut { account, paise } => done(pool.pay_out(account, paise)),
-        Call::Account { account } => match pool.account(account) {
-            Ok(sum) => Answer::Sum(sum),
-            Err(refusal) => Answer::Refused(refusal),
-        },
-        Call::Cash => Answer::Sum(pool.cash()),
+        Call::Account { account } => pool.account(account).map(Reply::Sum),
+        Call::Cash => Ok(Reply::Sum(pool.cash())),
     }
 }
 
 /// Performs a call, and notes it with its answer, the records of a closed day, the accounts and the cash.
 pub fn perform<T: Tariff, R: PartingRule>(pool: &mut Pool<T, R>, call: Call) -> Entry
     ensures call { result.call ≡ call }
-    ensures stands { (J : List Entry) → Stands (T.Tariff.meaning pool.old.tariff) (R.PartingRule.shares pool.old.rule) J pool.old.book → Stands (T.Tariff.meaning pool.old.tariff) (R.PartingRule.shares pool.old.rule) (result ∷ J) pool.new.book }
+    ensures stands { Carries (T.Tariff.meaning pool.old.tariff) (R.PartingRule.shares pool.old.rule) pool.old.book (result ∷ []) pool.new.book }
     ensures tariff { pool.new.tariff ≡ pool.old.tariff }
     ensures rule { pool.new.rule ≡ pool.old.rule }
 {
-    let mut records = no_records();
+    let mut records = [Record::default(); RECORDS];
     let answer = answer_to(pool, call, &mut records);
     Entry {
         call,

@@ -1,6 +1,7 @@
 -- A sound book's day is settled exactly where all its entries are there. Assumes nothing.
 use Rattle.std.proofs.Common.{◌≡◌, ℕ, suc, ◌-◌, ◌<◌, Bool, true, false, cond, ◌&&◌, ◌||◌, ltb, List, [], ◌∷◌, length, get_or, take, ℤ, is_some, Some, None, Ok, Err, Option, Result, sym, refl, ap, ◌∙◌, subst, inl, inr, arith}
 use borrow.Rule.Slice.PartMut.{mid_of}
+use Rattle.std.specs.Result.{IsErrAnd}
 use native.Mathlib.Nat.{sub-zero}
 use Rattle.std.specs.Option.{option_map, option_zip}
 use Rattle.std.specs.List.{list_all}
@@ -112,6 +113,11 @@ short_is b room s =
 abbrev pub refused_as : Result (Unit {0}) Unclosed → Result (Unit {0}) Refusal
 refused_as (Ok u) = Ok tt
 refused_as (Err unclosed) = Err (refusal_of unclosed)
+
+-- the refusal that an unclosed day is turned into
+pub turned : (r : Result (Unit {0}) Refusal) (refusal : Refusal) → IsErrAnd r (λ e. e ≡ refusal) → r ≡ Err refusal
+turned (Ok u) refusal h = absurd h
+turned (Err e) refusal h = ap Err h
 
 by_few : (few over : Bool) → refused_as (cond few (Err Short) (cond over (Err TooMuch) (Ok tt))) ≡ unless few TooFewRecords (unless over SideTooLarge (Ok tt))
 by_few true over = refl

@@ -7,13 +7,12 @@ use Rattle.quantities.specs.Limits.{most_money}
 use Rattle.quantities.specs.declared.paise.Paise.{Paise}
 use Rattle.quantities.specs.Money.{money}
 use Rattle.member_day.specs.Entries.{blocks}
-use Rattle.member_day.specs.declared.entries.GridEntry.{GridEntry}
 use Rattle.member_day.specs.declared.entries.ReadingEntry.{ReadingEntry}
 use Rattle.day.specs.declared.member.Member.{Member}
 use Rattle.day.specs.declared.record.Record.{Record}
 use Rattle.day.specs.declared.member.MemberKind.{MemberKind}
 use Rattle.day.specs.declared.member.MemberKind.TheVariants.{Regional}
-use Rattle.pool.specs.Calls.{opened_on, with_money, with_one_more, with_row, with_member, ended, paid, closed_with}
+use Rattle.pool.specs.Calls.{opened_on, with_money, with_one_more, with_member, paid, closed_with}
 use Rattle.day.specs.Members.{most_members}
 use Rattle.day.specs.Records.{record_count}
 use Rattle.pool.specs.Rules.{most_day}
@@ -23,7 +22,7 @@ use Rattle.day.specs.Members.{member_at, nobody}
 use Rattle.pool.specs.Tables.{fresh, vacant, no_entries, of_kind, cleared}
 use Rattle.pool.specs.declared.accounts.Account.{Account}
 use Rattle.pool.specs.declared.book.Book.{Book}
-use Rattle.pool.proofs.Members.{changed_at, set_at, cleared_at, none_fine}
+use Rattle.pool.proofs.Members.{changed_at, cleared_at, none_fine}
 use Rattle.pool.proofs.Totals.{total_added, within_added, total_within, total_posted, sum_at_posted, length_posted}
 
 -- a table with no entries holds none
@@ -109,23 +108,6 @@ opened_sound b day s shut later dated = record {
   cash_least = s.cash_least;
 }
 
-pub grid_sound : (b : Book) (block : ℕ) (row : GridEntry) → Sound b → block < blocks → grid_fine (Some row) ≡ true → Sound (with_row b block row)
-grid_sound b block row s lt fits = record {
-  few = s.few;
-  places = s.places;
-  long = s.long;
-  fine = s.fine;
-  beyond = s.beyond;
-  rows = length-set b.grid block (Some row) ∙ s.rows;
-  grid_rows = λ k. set_at b.grid block (Some row) None k (λ g. grid_fine g ≡ true) (omega (arith, s.rows)) fits (s.grid_rows k);
-  dated = s.dated;
-  begun = s.begun;
-  full = s.full;
-  bounded = s.bounded;
-  balanced = s.balanced;
-  cash_least = s.cash_least;
-}
-
 -- one enrolled member changed, whose readings stay as many and within their limits
 pub member_sound : (b : Book) (place : ℕ) (f : Member → Member) → Sound b → place < b.count →
     length (f (member_at b.members place)).readings ≡ blocks →
@@ -183,23 +165,6 @@ paid_sound b place more less s known even nearer enough =
       cash_least = enough;
     }
 
-pub ended_sound : (b : Book) → Sound b → Sound (ended b)
-ended_sound b s = record {
-  few = s.few;
-  places = s.places;
-  long = s.long;
-  fine = s.fine;
-  beyond = s.beyond;
-  rows = s.rows;
-  grid_rows = s.grid_rows;
-  dated = s.dated;
-  begun = omega arith;
-  full = s.full;
-  bounded = λ k lt. let w = s.bounded k lt in omega arith;
-  balanced = s.balanced;
-  cash_least = s.cash_least;
-}
-
 pub closed_sound : (b : Book) (rs : List Record) → Sound b → b.opened ≡ true → Postable rs → Sound (closed_with b rs)
 closed_sound b rs s open? e =
     let xs = b.accounts.table in
@@ -228,9 +193,7 @@ closed_sound b rs s open? e =
     }
 
 -- a book whose accounts and cash were changed so is the one after that payment
-pub paid_is : (b : Book) (xs : List Account) (cash : Paise) (place place' : ℕ) (more more' less less' : ℤ) →
-    xs ≡ added b.accounts.table place more → cash.paise ≡ b.cash.paise +ℤ less → place ≡ place' → more ≡ more' → less ≡ less' →
-    with_money b xs cash ≡ paid b place' more' less'
-paid_is b xs cash place place' more more' less less' table_is cash-is p m l =
-    ap (λ t. with_money b t cash) (table_is ∙ (ap (λ k. added b.accounts.table k more) p ∙ ap (added b.accounts.table place') m))
-    ∙ ap (λ z. with_money b (added b.accounts.table place' more') (money z)) (cash-is ∙ ap (λ z. b.cash.paise +ℤ z) l)
+pub paid_is : (b : Book) (xs : List Account) (cash : Paise) (place : ℕ) (more less : ℤ) →
+    xs ≡ added b.accounts.table place more → cash.paise ≡ b.cash.paise +ℤ less → with_money b xs cash ≡ paid b place more less
+paid_is b xs cash place more less table_is cash_is =
+    ap (λ t. with_money b t cash) table_is ∙ ap (λ z. with_money b (added b.accounts.table place more) (money z)) cash_is

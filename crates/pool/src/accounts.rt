@@ -9,15 +9,22 @@ use day::Record;
 use quantities::Paise;
 
 /// What an account owes to the pool; what is due to it is negative.
-#[derive(Clone, Copy)]
+#[derive(Clone, Copy, PartialEq, Default)]
 pub struct Account {
     pub sum: Paise,
 }
 
 /// An account for each member, in their order, and the reserve's after them.
-#[derive(Clone, Copy)]
+#[derive(Clone, Copy, PartialEq)]
 pub struct Accounts {
     pub table: [Account; ACCOUNTS],
+}
+
+/// The place of an account in the table.
+#[derive(Clone, Copy)]
+pub(crate) struct AccountPlace {
+    pub(crate) place: usize,
+    ghost within: { place < record_count },
 }
 
 impl Accounts {
@@ -25,46 +32,42 @@ impl Accounts {
         ensures answer { result.table ≡ replicate record_count (owing (pos 0)) }
     {
         Accounts {
-            table: [Account {
-                sum: Paise::NOTHING,
-            }; ACCOUNTS],
+            table: [Account::default(); ACCOUNTS],
         }
     }
 
-    pub(crate) fn sum(&self, account: usize) -> Paise
-        requires within { account < record_count }
-        ensures answer { result.paise ≡ sum_at self.now.table account }
+    pub(crate) fn sum(&self, account: AccountPlace) -> Paise
+        ensures answer { result.paise ≡ sum_at self.now.table account.place }
     {
-        self.table[account].sum
+        self.table[account.place].sum
     }
 
     /// One account owes so much more.
-    pub(crate) fn raise(&mut self, account: usize, sum: Paise)
-        requires within { account < record_count }
-        requires fits { FitsSigned w64 (sum_at self.old.table account +ℤ sum.paise) }
-        ensures after { self.new.table ≡ added self.old.table account sum.paise }
+    pub(crate) fn raise(&mut self, account: AccountPlace, sum: Paise)
+        requires fits { FitsSigned w64 (sum_at self.old.table account.place +ℤ sum.paise) }
+        ensures after { self.new.table ≡ added self.old.table account.place sum.paise }
     {
-        self.table[account].sum = self.table[account].sum + sum;
+        let account = &mut self.table[account.place];
+        account.sum = account.sum + sum;
     }
 
     /// One account owes so much less.
-    pub(crate) fn lower(&mut self, account: usize, sum: Paise)
-        requires within { account < record_count }
-        requires fits { FitsSigned w64 (sum_at self.old.table account +ℤ neg_ℤ sum.paise) }
-        ensures after { self.new.table ≡ added self.old.table account (neg_ℤ sum.paise) }
+    pub(crate) fn lower(&mut self, account: AccountPlace, sum: Paise)
+        requires fits { FitsSigned w64 (sum_at self.old.table account.place +ℤ neg_ℤ sum.paise) }
+        ensures after { self.new.table ≡ added self.old.table account.place (neg_ℤ sum.paise) }
     {
-        self.table[account].sum = self.table[account].sum - sum;
+        let account = &mut self.table[account.place];
+        account.sum = account.sum - sum;
     }
 
     /// Adds each line to its account.
     pub(crate) fn post(&mut self, records: &[Record])
-        requires full { length self.old.table ≡ record_count }
         requires as_many { length records.now ≡ record_count }
         requires fits { (k : ℕ) → k < record_count → FitsSigned w64 (sum_at self.old.table k +ℤ line_at records.now k) }
         ensures after { self.new.table ≡ posted self.old.table records.now }
     {
-        for account in 0..ACCOUNTS {
-            self.raise(account, records[account].line);
+        for (place, record) in records.iter().enumerate() {
+            self.raise(AccountPlace { place }, record.line);
         }
     }
 }

@@ -6,11 +6,12 @@ use quantities::Paise;
 
 #[derive(Clone, Copy)]
 pub struct Book {
+    /// A fixed table, with the number of those enrolled beside it: no heap.
     pub(crate) members: [Member; MEMBERS],
     /// How many of them are enrolled.
     pub(crate) count: usize,
     pub(crate) grid: [Option<GridEntry>; BLOCKS],
-    /// The day last opened, 0 before the first.
+    /// The day last opened, 0 before the first: its number is kept after it was closed, so it is no part of `opened`.
     pub(crate) day: u32,
     pub(crate) opened: bool,
     pub(crate) accounts: Accounts,

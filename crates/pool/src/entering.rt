@@ -1,20 +1,20 @@
-//! Enrolling, opening, entering and dropping on a book.
-ghost use Rattle.std.specs.Prelude.{◌≡◌, ◌<◌, ◌≤◌, true, false, map, pos, is_ok, if◌then◌else◌, Some, Ok, Err, MatchResult, slice_set};
+//! Enrolling, opening, entering and dropping.
+ghost use Rattle.std.specs.Prelude.{◌≡◌, ◌<◌, true, false, map, is_ok, if◌then◌else◌, Some, IfOk, MatchResult, slice_set, unsigned_abs};
+ghost use Rattle.day.specs.Members.{member_at};
 ghost use Rattle.member_day.specs.Entries.{blocks};
 ghost use Rattle.pool.specs.Calls.{amount_by, dropping, ended, enrolled_as, enrolling, entering_amount, entering_grid, kind_of_member, entering_reading, opened_on, opening, read_by, with_grid};
-ghost use Rattle.day.specs.Members.{most_members};
-ghost use Rattle.pool.specs.Rules.{metered_member, regional_member};
-ghost use Rattle.pool.specs.Sound.{Sound};
-ghost use Rattle.pool.specs.Tables.{cleared, fresh, no_entries, without_entries};
+ghost use Rattle.pool.specs.Rules.{enrolled, metered_member, regional_member};
+ghost use Rattle.pool.specs.Tables.{cleared, fresh, with_reading, without_entries};
 
 use crate::accounts::Accounts;
 use crate::book::Book;
-use crate::entries::{block_place, grid_row, member_place, reading_row};
+use crate::entries::{block_place, grid_row, place_below, reading_row};
 use crate::limits::MOST_DAY;
+use crate::pool::Pool;
 use crate::refusal::Refusal;
 use day::{MEMBERS, Member, MemberKind};
 use facts::Kind;
-use member_day::{BLOCKS, GridEntry};
+use member_day::{BLOCKS, ReadingEntry};
 use quantities::{Paise, limited};
 
 /// A member of this kind with no entries.
@@ -28,12 +28,6 @@ fn without_entries(kind: MemberKind) -> Member
     }
 }
 
-fn no_grid_rows() -> [Option<GridEntry>; BLOCKS]
-    ensures answer { result ≡ no_entries }
-{
-    [None; BLOCKS]
-}
-
 /// A later entry for a block replaces the earlier one.
 fn put<X: Copy>(table: &mut [Option<X>; BLOCKS], block: usize, row: X)
     requires within { block < blocks }
@@ -42,103 +36,86 @@ fn put<X: Copy>(table: &mut [Option<X>; BLOCKS], block: usize, row: X)
     table[block] = Some(row);
 }
 
+fn put_reading(member: &mut Member, block: usize, row: ReadingEntry)
+    requires within { block < blocks }
+    ensures after { member.new ≡ with_reading block row member.old }
+{
+    put(&mut member.readings, block, row);
+}
+
 /// A day starts with no entries.
 fn clear_all(members: &mut [Member; MEMBERS])
     ensures after { members.new ≡ map cleared members.old }
 {
-    for place in 0..MEMBERS {
-        members[place] = without_entries(members[place].kind);
+    for member in members.iter_mut() {
+        *member = without_entries(member.kind);
     }
 }
 
 impl Book {
-    pub(crate) fn new() -> Book
+    fn new() -> Book
         ensures answer { result ≡ fresh }
-        ensures sound { Sound result }
     {
-        let vacant = without_entries(MemberKind::Regional);
-        let grid = no_grid_rows();
-        let accounts = Accounts::new();
         Book {
-            members: [vacant; MEMBERS],
+            members: [without_entries(MemberKind::Regional); MEMBERS],
             count: 0,
-            grid,
+            grid: [None; BLOCKS],
             day: 0,
             opened: false,
-            accounts,
+            accounts: Accounts::new(),
             cash: Paise::NOTHING,
         }
     }
+}
 
-    pub(crate) fn enrol(&mut self, kind: i64) -> Result<usize, Refusal>
-        requires { Sound self.old }
-        ensures answer { result ≡ enrolling self.old kind }
-        ensures after { self.new ≡ (if is_ok result then enrolled_as self.old kind else self.old) }
-        ensures sound { Sound self.new }
+impl<T, R> Pool<T, R> {
+    /// A pool with no member and no day, accounts and cash at 0.
+    pub fn new(tariff: T, rule: R) -> Pool<T, R>
+        ensures book { result.book ≡ fresh }
+        ensures tariff { result.tariff ≡ tariff }
+        ensures rule { result.rule ≡ rule }
     {
-        if self.opened {
-            return Err(Refusal::WrongMoment);
+        Pool {
+            tariff,
+            rule,
+            book: Book::new(),
         }
-        let kind = MemberKind::try_from(kind)?;
-        let place = self.count;
-        if MEMBERS <= place {
-            return Err(Refusal::PoolFull);
-        }
-        self.members[place].kind = kind;
-        self.count = place + 1;
-        Ok(place)
     }
 
-    pub(crate) fn open(&mut self, day: i64) -> Result<(), Refusal>
-        requires { Sound self.old }
-        ensures answer { result ≡ opening self.old day }
-        ensures after { self.new ≡ (if is_ok result then opened_on self.old day else self.old) }
-        ensures sound { Sound self.new }
+    pub(crate) fn must_be_open(&self) -> Result<(), Refusal>
+        ensures answer { MatchResult result (λ _. self.now.book.opened ≡ true) (λ e. (self.now.book.opened ≡ false) × (e ≡ Refusal.WrongMoment)) }
     {
-        if self.opened {
-            return Err(Refusal::WrongMoment);
+        if self.book.opened {
+            Ok(())
+        } else {
+            Err(Refusal::WrongMoment)
         }
-        let Some(day) = limited(day, 1, MOST_DAY) else {
-            return Err(Refusal::OutsideLimit);
-        };
-        if day <= self.day {
-            return Err(Refusal::DayNotLater);
-        }
-        clear_all(&mut self.members);
-        self.grid = no_grid_rows();
-        self.day = day;
-        self.opened = true;
-        Ok(())
     }
 
-    pub(crate) fn grid_row(&mut self, block: i64, hz100: i64, price: i64) -> Result<(), Refusal>
-        requires { Sound self.old }
-        ensures answer { result ≡ entering_grid self.old block hz100 price }
-        ensures after { self.new ≡ (if is_ok result then with_grid self.old block hz100 price else self.old) }
-        ensures sound { Sound self.new }
+    fn must_be_closed(&self) -> Result<(), Refusal>
+        ensures answer { MatchResult result (λ _. self.now.book.opened ≡ false) (λ e. (self.now.book.opened ≡ true) × (e ≡ Refusal.WrongMoment)) }
     {
-        if !self.opened {
-            return Err(Refusal::WrongMoment);
+        if self.book.opened {
+            Err(Refusal::WrongMoment)
+        } else {
+            Ok(())
         }
-        let Some(block) = block_place(block) else {
-            return Err(Refusal::OutsideLimit);
-        };
-        let Some(row) = grid_row(hz100, price) else {
-            return Err(Refusal::OutsideLimit);
-        };
-        put(&mut self.grid, block, row);
-        Ok(())
+    }
+
+    /// The place of an enrolled member.
+    fn member_named(&self, number: i64) -> Result<usize, Refusal>
+        ensures answer { MatchResult result (λ k. (enrolled self.now.book.count number ≡ true) × (k ≡ unsigned_abs number)) (λ e. (enrolled self.now.book.count number ≡ false) × (e ≡ Refusal.NotEnrolled)) }
+    {
+        place_below(number, self.book.count).ok_or(Refusal::NotEnrolled)
     }
 
     /// The kind of a member that has readings, with its place.
     fn metered_member(&self, number: i64) -> Result<(usize, Kind), Refusal>
-        requires { self.now.count ≤ most_members }
-        ensures answer { result ≡ metered_member self.now.count (kind_of_member self.now number) number }
+        ensures answer { result ≡ metered_member self.now.book.count (kind_of_member self.now.book number) number }
+        ensures found { IfOk result (λ x. (x.0 ≡ unsigned_abs number) × (x.0 < self.now.book.count) × ((member_at self.now.book.members x.0).kind ≡ MemberKind.Metered x.1)) }
     {
-        let Some(place) = member_place(number, self.count) else {
-            return Err(Refusal::NotEnrolled);
-        };
-        match self.members[place].kind {
+        let place = self.member_named(number)?;
+        match self.book.members[place].kind {
             MemberKind::Metered(kind) => Ok((place, kind)),
             MemberKind::Regional => Err(Refusal::WrongKind),
         }
@@ -146,19 +123,69 @@ impl Book {
 
     /// The place of a member that has an amount.
     fn regional_member(&self, number: i64) -> Result<usize, Refusal>
-        requires { self.now.count ≤ most_members }
-        ensures answer { result ≡ regional_member self.now.count (kind_of_member self.now number) number }
+        ensures answer { result ≡ regional_member self.now.book.count (kind_of_member self.now.book number) number }
+        ensures found { IfOk result (λ k. (k ≡ unsigned_abs number) × (k < self.now.book.count)) }
     {
-        let Some(place) = member_place(number, self.count) else {
-            return Err(Refusal::NotEnrolled);
-        };
-        match self.members[place].kind {
+        let place = self.member_named(number)?;
+        match self.book.members[place].kind {
             MemberKind::Metered(_) => Err(Refusal::WrongKind),
             MemberKind::Regional => Ok(place),
         }
     }
 
-    pub(crate) fn reading(
+    /// Enrols a member of this kind, and answers its number.
+    pub fn enrol(&mut self, kind: i64) -> Result<usize, Refusal>
+        ensures answer { result ≡ enrolling self.old.book kind }
+        ensures after { self.new.book ≡ (if is_ok result then enrolled_as self.old.book kind else self.old.book) }
+        ensures tariff { self.new.tariff ≡ self.old.tariff }
+        ensures rule { self.new.rule ≡ self.old.rule }
+    {
+        self.must_be_closed()?;
+        let kind = MemberKind::try_from(kind)?;
+        let place = self.book.count;
+        if MEMBERS <= place {
+            return Err(Refusal::PoolFull);
+        }
+        self.book.members[place].kind = kind;
+        self.book.count = place + 1;
+        Ok(place)
+    }
+
+    /// Opens the day of this number, with no entries.
+    pub fn open(&mut self, day: i64) -> Result<(), Refusal>
+        ensures answer { result ≡ opening self.old.book day }
+        ensures after { self.new.book ≡ (if is_ok result then opened_on self.old.book day else self.old.book) }
+        ensures tariff { self.new.tariff ≡ self.old.tariff }
+        ensures rule { self.new.rule ≡ self.old.rule }
+    {
+        self.must_be_closed()?;
+        let day = limited(day, 1, MOST_DAY).ok_or(Refusal::OutsideLimit)?;
+        if day <= self.book.day {
+            return Err(Refusal::DayNotLater);
+        }
+        clear_all(&mut self.book.members);
+        self.book.grid = [None; BLOCKS];
+        self.book.day = day;
+        self.book.opened = true;
+        Ok(())
+    }
+
+    /// Enters the grid's row of a block; it replaces an earlier one.
+    pub fn grid_row(&mut self, block: i64, hz100: i64, price: i64) -> Result<(), Refusal>
+        ensures answer { result ≡ entering_grid self.old.book block hz100 price }
+        ensures after { self.new.book ≡ (if is_ok result then with_grid self.old.book block hz100 price else self.old.book) }
+        ensures tariff { self.new.tariff ≡ self.old.tariff }
+        ensures rule { self.new.rule ≡ self.old.rule }
+    {
+        self.must_be_open()?;
+        let block = block_place(block)?;
+        let row = grid_row(hz100, price)?;
+        put(&mut self.book.grid, block, row);
+        Ok(())
+    }
+
+    /// Enters a member's reading of a block; it replaces an earlier one.
+    pub fn reading(
         &mut self,
         member: i64,
         block: i64,
@@ -166,52 +193,42 @@ impl Book {
         metered: i64,
         available: i64,
     ) -> Result<(), Refusal>
-        requires { Sound self.old }
-        ensures answer { result ≡ entering_reading self.old member block scheduled metered available }
-        ensures after { self.new ≡ (if is_ok result then read_by self.old member block scheduled metered available else self.old) }
-        ensures sound { Sound self.new }
+        ensures answer { result ≡ entering_reading self.old.book member block scheduled metered available }
+        ensures after { self.new.book ≡ (if is_ok result then read_by self.old.book member block scheduled metered available else self.old.book) }
+        ensures tariff { self.new.tariff ≡ self.old.tariff }
+        ensures rule { self.new.rule ≡ self.old.rule }
     {
-        if !self.opened {
-            return Err(Refusal::WrongMoment);
-        }
+        self.must_be_open()?;
         let (place, kind) = self.metered_member(member)?;
-        let Some(block) = block_place(block) else {
-            return Err(Refusal::OutsideLimit);
-        };
-        let Some(row) = reading_row(kind, scheduled, metered, available) else {
-            return Err(Refusal::OutsideLimit);
-        };
-        put(&mut self.members[place].readings, block, row);
+        let block = block_place(block)?;
+        let row = reading_row(kind, scheduled, metered, available)?;
+        put_reading(&mut self.book.members[place], block, row);
         Ok(())
     }
 
-    pub(crate) fn amount(&mut self, member: i64, paise: i64) -> Result<(), Refusal>
-        requires { Sound self.old }
-        ensures answer { result ≡ entering_amount self.old member paise }
-        ensures after { self.new ≡ (if is_ok result then amount_by self.old member paise else self.old) }
-        ensures sound { Sound self.new }
+    /// Enters a member's regional amount; it replaces an earlier one.
+    pub fn amount(&mut self, member: i64, paise: i64) -> Result<(), Refusal>
+        ensures answer { result ≡ entering_amount self.old.book member paise }
+        ensures after { self.new.book ≡ (if is_ok result then amount_by self.old.book member paise else self.old.book) }
+        ensures tariff { self.new.tariff ≡ self.old.tariff }
+        ensures rule { self.new.rule ≡ self.old.rule }
     {
-        if !self.opened {
-            return Err(Refusal::WrongMoment);
-        }
+        self.must_be_open()?;
         let place = self.regional_member(member)?;
-        let Some(amount) = Paise::regional(paise) else {
-            return Err(Refusal::OutsideLimit);
-        };
-        self.members[place].amount = Some(amount);
+        let amount = Paise::regional(paise).ok_or(Refusal::OutsideLimit)?;
+        self.book.members[place].amount = Some(amount);
         Ok(())
     }
 
-    pub(crate) fn discard(&mut self) -> Result<(), Refusal>
-        requires { Sound self.old }
-        ensures answer { result ≡ dropping self.old }
-        ensures after { self.new ≡ (if is_ok result then ended self.old else self.old) }
-        ensures sound { Sound self.new }
+    /// Drops the open day; its number stays used.
+    pub fn discard(&mut self) -> Result<(), Refusal>
+        ensures answer { result ≡ dropping self.old.book }
+        ensures after { self.new.book ≡ (if is_ok result then ended self.old.book else self.old.book) }
+        ensures tariff { self.new.tariff ≡ self.old.tariff }
+        ensures rule { self.new.rule ≡ self.old.rule }
     {
-        if !self.opened {
-            return Err(Refusal::WrongMoment);
-        }
-        self.opened = false;
+        self.must_be_open()?;
+        self.book.opened = false;
         Ok(())
     }
 }

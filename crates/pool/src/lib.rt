@@ -2,8 +2,8 @@
 #![tactic(auto)]
 
 mod accounts;
+mod asking;
 mod book;
-mod calls;
 mod closing;
 mod entering;
 mod entries;

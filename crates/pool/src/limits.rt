@@ -5,7 +5,7 @@ use day::{MEMBERS, RECORDS};
 pub(crate) const MOST_DAY: u32 = 30_000;
 
 /// The account of the reserve, after those of the members.
-pub const RESERVE: usize = 16;
+pub const RESERVE: usize = MEMBERS;
 
 /// An account for each record of a day.
-pub const ACCOUNTS: usize = 17;
+pub const ACCOUNTS: usize = RECORDS;

@@ -1,103 +1,71 @@
-//! Payments, queries and the posting of lines on a book.
-ghost use Rattle.std.specs.Prelude.{◌≡◌, ℕ, ◌<◌, ◌≤◌, true, false, is_ok, if◌then◌else◌, MatchOption, int_lt, unsigned_abs};
-ghost use Rattle.day.specs.Members.{most_members};
-ghost use Rattle.pool.specs.Calls.{asking, closed_with, paid_in, paid_out, paying_in, paying_out};
-ghost use Rattle.pool.specs.Rules.{has_account};
-ghost use Rattle.pool.specs.Sound.{Postable, Sound};
+//! Payments.
+ghost use Rattle.std.specs.Prelude.{◌≡◌, true, false, not, is_ok, if◌then◌else◌, Err, Result, MatchResult, unsigned_abs};
+ghost use Rattle.pool.specs.Calls.{paid_in, paid_out, paying_in, paying_out};
+ghost use Rattle.pool.specs.Rules.{has_account, unless};
+ghost use Rattle.pool.specs.declared.refusal.Refusal.{Refusal};
+ghost use Rattle.quantities.specs.Limits.{most_money, within};
 
-use crate::book::Book;
-use crate::entries::member_place;
+use crate::accounts::AccountPlace;
+use crate::entries::place_below;
 use crate::limits::RESERVE;
+use crate::pool::Pool;
 use crate::refusal::Refusal;
-use day::Record;
 use quantities::Paise;
 
-/// The place of a member's account, or of the reserve's, by its number.
-fn account_place(number: i64, count: usize) -> Option<usize>
-    ensures answer { MatchOption result (has_account count number ≡ false) (λ k. (has_account count number ≡ true) × (k ≡ unsigned_abs number)) }
-{
-    match member_place(number, count) {
-        Some(place) => Some(place),
-        None => {
-            if number == RESERVE as i64 {
-                Some(RESERVE)
-            } else {
-                None
-            }
-        }
-    }
-}
-
-fn less(a: Paise, b: Paise) -> bool
-    ensures answer { result ≡ int_lt a.paise b.paise }
-{
-    a < b
-}
-
-impl Book {
-    pub(crate) fn pay_in(&mut self, account: i64, paise: i64) -> Result<(), Refusal>
-        requires { Sound self.old }
-        ensures answer { result ≡ paying_in self.old account paise }
-        ensures after { self.new ≡ (if is_ok result then paid_in self.old account paise else self.old) }
-        ensures sound { Sound self.new }
+impl<T, R> Pool<T, R> {
+    /// The place of a member's account, or of the reserve's, by its number.
+    pub(crate) fn account_named(&self, number: i64) -> Result<AccountPlace, Refusal>
+        ensures answer { MatchResult result (λ k. (has_account self.now.book.count number ≡ true) × (k.place ≡ unsigned_abs number)) (λ e. (has_account self.now.book.count number ≡ false) × (e ≡ Refusal.NotEnrolled)) }
     {
-        let Some(place) = account_place(account, self.count) else {
-            return Err(Refusal::NotEnrolled);
-        };
-        let Some(payment) = Paise::payment(paise) else {
-            return Err(Refusal::OutsideLimit);
-        };
-        if less(self.accounts.sum(place), payment) {
+        let reserve = (number == RESERVE as i64).then_some(RESERVE);
+        let place = place_below(number, self.book.count)
+            .or(reserve)
+            .ok_or(Refusal::NotEnrolled)?;
+        Ok(AccountPlace { place })
+    }
+
+    /// The account and the sum of a payment.
+    fn payment(&self, account: i64, paise: i64) -> Result<(AccountPlace, Paise), Refusal>
+        ensures answer { MatchResult result (λ x. (has_account self.now.book.count account ≡ true) × (x.0.place ≡ unsigned_abs account) × (within 1 most_money paise ≡ true) × (x.1.paise ≡ paise)) (λ e. (next : Result (Unit {0}) Refusal) → unless (not (has_account self.now.book.count account)) Refusal.NotEnrolled (unless (not (within 1 most_money paise)) Refusal.OutsideLimit next) ≡ Err e) }
+    {
+        let place = self.account_named(account)?;
+        let sum = Paise::payment(paise).ok_or(Refusal::OutsideLimit)?;
+        Ok((place, sum))
+    }
+
+    /// Takes a payment in from an account that owes as much.
+    pub fn pay_in(&mut self, account: i64, paise: i64) -> Result<(), Refusal>
+        ensures answer { result ≡ paying_in self.old.book account paise }
+        ensures after { self.new.book ≡ (if is_ok result then paid_in self.old.book account paise else self.old.book) }
+        ensures tariff { self.new.tariff ≡ self.old.tariff }
+        ensures rule { self.new.rule ≡ self.old.rule }
+    {
+        let (debtor, payment) = self.payment(account, paise)?;
+        if self.book.accounts.sum(debtor) < payment {
             return Err(Refusal::MoreThanDue);
         }
-        self.accounts.lower(place, payment);
-        self.cash = self.cash + payment;
+        self.book.accounts.lower(debtor, payment);
+        self.book.cash = self.book.cash + payment;
         Ok(())
     }
 
-    pub(crate) fn pay_out(&mut self, account: i64, paise: i64) -> Result<(), Refusal>
-        requires { Sound self.old }
-        ensures answer { result ≡ paying_out self.old account paise }
-        ensures after { self.new ≡ (if is_ok result then paid_out self.old account paise else self.old) }
-        ensures sound { Sound self.new }
+    /// Pays out to an account to which as much is due, from the cash.
+    pub fn pay_out(&mut self, account: i64, paise: i64) -> Result<(), Refusal>
+        ensures answer { result ≡ paying_out self.old.book account paise }
+        ensures after { self.new.book ≡ (if is_ok result then paid_out self.old.book account paise else self.old.book) }
+        ensures tariff { self.new.tariff ≡ self.old.tariff }
+        ensures rule { self.new.rule ≡ self.old.rule }
     {
-        let Some(place) = account_place(account, self.count) else {
-            return Err(Refusal::NotEnrolled);
-        };
-        let Some(payment) = Paise::payment(paise) else {
-            return Err(Refusal::OutsideLimit);
-        };
-        let due = Paise::NOTHING - self.accounts.sum(place);
-        if less(due, payment) {
+        let (creditor, payment) = self.payment(account, paise)?;
+        let due = Paise::NOTHING - self.book.accounts.sum(creditor);
+        if due < payment {
             return Err(Refusal::MoreThanDue);
         }
-        if less(self.cash, payment) {
+        if self.book.cash < payment {
             return Err(Refusal::MoreThanCash);
         }
-        self.accounts.raise(place, payment);
-        self.cash = self.cash - payment;
+        self.book.accounts.raise(creditor, payment);
+        self.book.cash = self.book.cash - payment;
         Ok(())
-    }
-
-    pub(crate) fn account(&self, account: i64) -> Result<Paise, Refusal>
-        requires { self.now.count ≤ most_members }
-        ensures answer { result ≡ asking self.now account }
-    {
-        match account_place(account, self.count) {
-            Some(place) => Ok(self.accounts.sum(place)),
-            None => Err(Refusal::NotEnrolled),
-        }
-    }
-
-    /// The day is over, and each line stands on its account.
-    pub(crate) fn post(&mut self, records: &[Record])
-        requires sound { Sound self.old }
-        requires opened { self.old.opened ≡ true }
-        requires lines { Postable records.now }
-        ensures after { self.new ≡ closed_with self.old records.now }
-        ensures sound { Sound self.new }
-    {
-        self.accounts.post(records);
-        self.opened = false;
     }
 }

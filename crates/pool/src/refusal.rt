@@ -4,30 +4,30 @@ ghost use Rattle.std.specs.Prelude.{◌≡◌, pos};
 
 use facts::UnknownKind;
 
-#[derive(Clone, Copy, PartialEq)]
+#[derive(Clone, Copy, PartialEq, Eq)]
 pub enum Refusal {
     /// Enrolling or opening while a day is open, or entering, closing or dropping while none is.
-    WrongMoment,
+    WrongMoment = 1,
     /// The member is not enrolled, or the account is neither enrolled nor the reserve's.
-    NotEnrolled,
+    NotEnrolled = 2,
     /// No kind has this number, or a member of this kind has no such entry.
-    WrongKind,
+    WrongKind = 3,
     /// Another number is outside its limit.
-    OutsideLimit,
+    OutsideLimit = 4,
     /// Sixteen members stand already.
-    PoolFull,
+    PoolFull = 5,
     /// The day number is not above the last opened.
-    DayNotLater,
+    DayNotLater = 6,
     /// A grid row, a reading or a regional amount is missing.
-    EntryMissing,
+    EntryMissing = 7,
     /// Fewer than seventeen records were given.
-    TooFewRecords,
+    TooFewRecords = 8,
     /// The payable or the receivable charges come to too much.
-    SideTooLarge,
+    SideTooLarge = 9,
     /// A payment in exceeds what the account owes, or one out what is due to it.
-    MoreThanDue,
+    MoreThanDue = 10,
     /// A payment out exceeds the cash.
-    MoreThanCash,
+    MoreThanCash = 11,
 }
 
 impl Refusal {
@@ -35,19 +35,7 @@ impl Refusal {
     pub fn number(self) -> i64
         ensures answer { result ≡ pos (refusal_number self) }
     {
-        match self {
-            Refusal::WrongMoment => 1,
-            Refusal::NotEnrolled => 2,
-            Refusal::WrongKind => 3,
-            Refusal::OutsideLimit => 4,
-            Refusal::PoolFull => 5,
-            Refusal::DayNotLater => 6,
-            Refusal::EntryMissing => 7,
-            Refusal::TooFewRecords => 8,
-            Refusal::SideTooLarge => 9,
-            Refusal::MoreThanDue => 10,
-            Refusal::MoreThanCash => 11,
-        }
+        self as i64
     }
 }
 

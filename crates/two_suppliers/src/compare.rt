@@ -1,110 +1,84 @@
 //! Two journals of the same calls, entry by entry.
 use day::{RECORDS, Record};
-use journal::{Answer, Call, Entry};
+use journal::{Call, Entry, Reply};
 use pool::{ACCOUNTS, Account, Accounts};
 use quantities::Paise;
+use std::fmt;
 
 /// An entry to begin a journal with.
 pub fn blank() -> Entry {
-    let nothing = Paise::NOTHING;
-    let record = Record {
-        base: nothing,
-        surcharge: nothing,
-        line: nothing,
-    };
     Entry {
         call: Call::Cash,
-        answer: Answer::Done,
-        records: [record; RECORDS],
+        answer: Ok(Reply::Done),
+        records: [Record::default(); RECORDS],
         accounts: Accounts {
-            table: [Account { sum: nothing }; ACCOUNTS],
+            table: [Account::default(); ACCOUNTS],
         },
-        cash: nothing,
+        cash: Paise::default(),
     }
 }
 
 /// How many calls were accepted and refused, and how many days were closed.
 #[derive(Clone, Copy)]
 pub struct Tally {
-    pub accepted: u32,
-    pub refused: u32,
-    pub closed: u32,
+    accepted: usize,
+    refused: usize,
+    closed: usize,
+}
+
+impl fmt::Display for Tally {
+    fn fmt<W: fmt::Write>(&self, f: &mut fmt::Formatter<W>) -> fmt::Result {
+        write!(
+            f,
+            "accepted {}, refused {}, days closed {}",
+            self.accepted, self.refused, self.closed
+        )
+    }
 }
 
 pub fn tally_of(journal: &[Entry]) -> Tally {
-    let mut seen = Tally {
-        accepted: 0,
-        refused: 0,
-        closed: 0,
-    };
-    for entry in journal {
-        match (entry.answer, entry.call) {
-            (Answer::Refused(_), _) => seen.refused = seen.refused.saturating_add(1),
-            (_, Call::Close { room: _ }) => {
-                seen.accepted = seen.accepted.saturating_add(1);
-                seen.closed = seen.closed.saturating_add(1);
-            }
-            _ => seen.accepted = seen.accepted.saturating_add(1),
-        }
+    let closed = |entry: &Entry| entry.answer.is_ok() && matches!(entry.call, Call::Close { .. });
+    Tally {
+        accepted: journal.iter().filter(|entry| entry.answer.is_ok()).count(),
+        refused: journal.iter().filter(|entry| entry.answer.is_err()).count(),
+        closed: journal.iter().filter(|entry| closed(entry)).count(),
     }
-    seen
 }
 
 /// How many entries of two journals were compared, and in how many each part was equal.
 #[derive(Clone, Copy)]
 pub struct Agreement {
-    pub entries: u32,
-    pub answers: u32,
-    pub records: u32,
-    pub accounts: u32,
+    entries: usize,
+    answers: usize,
+    records: usize,
+    accounts: usize,
 }
 
-fn same_answers(a: Answer, b: Answer) -> bool {
-    match (a, b) {
-        (Answer::Done, Answer::Done) => true,
-        (Answer::Enrolled(m), Answer::Enrolled(n)) => m == n,
-        (Answer::Sum(x), Answer::Sum(y)) => x == y,
-        (Answer::Refused(x), Answer::Refused(y)) => x == y,
-        _ => false,
+impl fmt::Display for Agreement {
+    fn fmt<W: fmt::Write>(&self, f: &mut fmt::Formatter<W>) -> fmt::Result {
+        writeln!(f, "entries compared: {}", self.entries)?;
+        writeln!(f, "equal in answers: {}", self.answers)?;
+        writeln!(f, "equal in records: {}", self.records)?;
+        write!(f, "equal in accounts and cash: {}", self.accounts)
     }
 }
 
-fn same_records(a: &[Record; RECORDS], b: &[Record; RECORDS]) -> bool {
-    for i in 0..RECORDS {
-        if a[i].base != b[i].base || a[i].surcharge != b[i].surcharge || a[i].line != b[i].line {
-            return false;
-        }
-    }
-    true
-}
-
-fn same_accounts(a: &Accounts, b: &Accounts) -> bool {
-    for i in 0..ACCOUNTS {
-        if a.table[i].sum != b.table[i].sum {
-            return false;
-        }
-    }
-    true
+/// In how many entries of two journals, place by place, the test holds.
+fn equal_in<F: Fn(&Entry, &Entry) -> bool>(first: &[Entry], second: &[Entry], same: F) -> usize
+    requires { F.IsAlwaysCallable same }
+{
+    first.iter().zip(second).filter(|(a, b)| same(a, b)).count()
 }
 
 pub fn agreement_of(first: &[Entry], second: &[Entry]) -> Agreement {
-    let mut seen = Agreement {
-        entries: 0,
-        answers: 0,
-        records: 0,
-        accounts: 0,
-    };
-    for (a, b) in first.iter().zip(second.iter()) {
-        seen.entries = seen.entries.saturating_add(1);
-        if same_answers(a.answer, b.answer) {
-            seen.answers = seen.answers.saturating_add(1);
-        }
-        if same_records(&a.records, &b.records) {
-            seen.records = seen.records.saturating_add(1);
-        }
-        if same_accounts(&a.accounts, &b.accounts) && a.cash == b.cash {
-            seen.accounts = seen.accounts.saturating_add(1);
-        }
+    Agreement {
+        entries: first.len().min(second.len()),
+        answers: equal_in(first, second, |a, b| a.answer == b.answer),
+        records: equal_in(first, second, |a, b| a.records == b.records),
+        accounts: equal_in(
+            first,
+            second,
+            |a, b| a.accounts == b.accounts && a.cash == b.cash,
+        ),
     }
-    seen
 }

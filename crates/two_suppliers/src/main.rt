@@ -9,7 +9,6 @@ mod supply;
 
 use calls::all_calls;
 use compare::{agreement_of, blank, tally_of};
-use journal::{Call, Entry};
 use supply::{another_order, both};
 
 fn main(rt: HostRuntime) -> anyhow::Result<()> {
@@ -24,28 +23,11 @@ fn run(rt: &HostRuntime) -> anyhow::Result<()> {
     let mut third = vec![in rt.alloc(); blank; calls.len()]?;
     let (count, other) = both(&calls, &mut first, &mut second);
     println!(rt; "calls given to each of two pools: {count} and {other}")?;
-    say_tally(rt, "first pool", &first)?;
-    say_tally(rt, "second pool", &second)?;
-    let seen = agreement_of(&first, &second);
-    let (entries, answers, records, accounts) = (
-        seen.entries,
-        seen.answers,
-        seen.records,
-        seen.accounts,
-    );
-    println!(rt; "entries compared: {entries}")?;
-    println!(rt; "equal in answers: {answers}")?;
-    println!(rt; "equal in records: {records}")?;
-    println!(rt; "equal in accounts and cash: {accounts}")?;
+    println!(rt; "first pool: {}", tally_of(&first))?;
+    println!(rt; "second pool: {}", tally_of(&second))?;
+    println!(rt; "{}", agreement_of(&first, &second))?;
     let count = another_order(&calls, &mut third);
     println!(rt; "calls given to a pile in another order with running: {count}")?;
-    say_tally(rt, "third pool", &third)?;
-    Ok(())
-}
-
-fn say_tally(rt: &impl Print, name: &str, journal: &[Entry]) -> anyhow::Result<()> {
-    let seen = tally_of(journal);
-    let (accepted, refused, closed) = (seen.accepted, seen.refused, seen.closed);
-    println!(rt; "{name}: accepted {accepted}, refused {refused}, days closed {closed}")?;
+    println!(rt; "third pool: {}", tally_of(&third))?;
     Ok(())
 }

@@ -9,7 +9,7 @@ ghost use Rattle.std.specs.Prelude.{reverse, take};
 
 use crate::second::{Asking, SecondPile, second_pile};
 use house::{House, house};
-use journal::{Call, Entry, run, run_two};
+use journal::{Call, Entry, Supplier, run, run_two};
 use other_piles::{Unusual, unusual};
 use parting::{LargestRemainder, Running};
 use pool::Pool;
@@ -20,19 +20,19 @@ pub fn both(calls: &[Call], first: &mut [Entry], second: &mut [Entry]) -> (usize
     ensures law { (Lawful house_charge largest_remainder (reverse (take result.0 first.new))) × (Lawful second_charge largest_remainder (reverse (take result.1 second.new))) }
     ensures same { Same (reverse (take result.0 first.new)) (reverse (take result.1 second.new)) }
 {
-    let rule = Asking {
+    let one = Supplier {
+        tariff: house(),
         rule: LargestRemainder,
+        calls,
     };
-    let (one, other) = run_two(
-        house(),
-        LargestRemainder,
+    let other = Supplier {
+        tariff: second_pile(),
+        rule: Asking {
+            rule: LargestRemainder,
+        },
         calls,
-        first,
-        second_pile(),
-        rule,
-        calls,
-        second,
-    );
+    };
+    let (one, other) = run_two(one, first, other, second);
     (one.1, other.1)
 }
 
@@ -41,6 +41,11 @@ pub fn another_order(calls: &[Call], journal: &mut [Entry]) -> usize
     ensures noted { Noted calls.now journal.old journal.new result }
     ensures law { Lawful unusual_charge running (reverse (take result journal.new)) }
 {
-    let (_, count) = run(unusual(), Running, calls, journal);
+    let supplier = Supplier {
+        tariff: unusual(),
+        rule: Running,
+        calls,
+    };
+    let (_, count) = run(supplier, journal);
     count
 }

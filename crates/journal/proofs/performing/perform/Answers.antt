@@ -1,6 +1,6 @@
 -- A call that is performed and noted leaves a pool that stands after it.
-use Rattle.std.proofs.Common.{◌∷◌, sym, refl, ap, ◌∙◌, subst, rules}
-use Rattle.pool.specs.Sound.{Sound}
+use Rattle.std.proofs.Common.{◌≡◌, ◌∷◌, replicate, sym, refl, ap, ◌∙◌, subst, rules}
+use Rattle.day.specs.Records.{nothing, record_count}
 use Rattle.journal.specs.Law.{Stands}
 use Rattle.journal.specs.Steps.{outcome}
 use Rattle.journal.proofs.Keeping.{step_stands}
@@ -15,14 +15,15 @@ returns g c =
     let a = c.answer_to-answer.result in
     let rs = c.answer_to-answer.new.records in
     let done = c.answer_to-answer.ensures in
-    let s : Sound c.args.pool.now.book = search rules in
-    let t : Sound c.answer_to-answer.new.pool.book = search rules in
+    let s = c.args.pool.now.sound in
+    let t = c.answer_to-answer.new.pool.sound in
+    let zeros : c.default-records.result ≡ nothing = search rules in
     record {
       call = refl;
       stands = λ J st.
           subst (λ x. Stands m p (record { call = c.args.call; answer = a; records = rs; accounts = x; cash = c.cash.result } ∷ J) w) (sym c.accounts.ensures.answer)
           (subst (λ y. Stands m p (record { call = c.args.call; answer = a; records = rs; accounts = w.accounts; cash = y } ∷ J) w) (sym c.cash.ensures.answer)
-          (step_stands m p c.args.call a rs J b w s t st done.answer done.after (done.records ∙ ap (outcome m p b c.args.call).records c.no_records-records.ensures.answer)));
+          (step_stands m p c.args.call a rs J b w s t st done.answer done.after (done.records ∙ ap (outcome m p b c.args.call).records (ap (replicate record_count) zeros))));
       tariff = done.tariff;
       rule = done.rule;
     }

@@ -15,6 +15,6 @@ returns g c =
     let L = reverse (take c.resume-count.result c.resume-count.new.journal) in
     record {
       noted = h.noted;
-      stands = from_none F G p.tariff c.args.tariff p.rule c.args.rule p.book L (λ m q J. Stands m q J w) b.tariff b.rule b.stands h.stands;
-      law = from_none F G p.tariff c.args.tariff p.rule c.args.rule p.book L Lawful b.tariff b.rule b.stands h.law;
+      stands = from_none F G p.tariff c.args.supplier.tariff p.rule c.args.supplier.rule p.book L (λ m q J. Stands m q J w) b.tariff b.rule b.stands h.stands;
+      law = from_none F G p.tariff c.args.supplier.tariff p.rule c.args.supplier.rule p.book L Lawful b.tariff b.rule b.stands h.law;
     }

@@ -6,20 +6,20 @@ use Rattle.day.specs.Members.{nobody}
 use Rattle.pool.specs.Tables.{cleared}
 use Rattle.pool.proofs.entering.clear_all.Goals as goal
 
-pub loop-place-preserved : goal.loop-place-preserved
-loop-place-preserved c =
-    let i = c.loop-place.place in
-    let ys = c.loop-place.members in
+pub loop-member-preserved : goal.loop-member-preserved
+loop-member-preserved c =
+    let i = c.loop-member.member-index in
+    let ys = c.loop-member.members in
     let n : length c.args.members.now ≡ 16 = search rules in
-    let l = c.loop-place.invariant.1 in (
+    let l = c.loop-member.invariant.1 in (
       ap (set ys i) c.without_entries.ensures.answer
-          ∙ map_over_more cleared c.args.members.now ys i (get_or ys i nobody) (omega arith) c.loop-place.invariant.0 (get_or_default ys i nobody (get_or ys i nobody) (omega arith)),
+          ∙ map_over_more cleared c.args.members.now ys i (get_or ys i nobody) (omega arith) c.loop-member.invariant.0 (get_or_default ys i nobody (get_or ys i nobody) (omega arith)),
       length-set ys i c.without_entries.result ∙ l,
     )
 
 pub returns : goal.returns
 returns c =
-    let i = c.loop-place.place in
+    let i = c.loop-member.member-index in
     let xs = c.args.members.now in
     let n : length c.args.members.now ≡ 16 = search rules in
-    record { after = c.loop-place.invariant.0 ∙ (ap (λ l. map cleared l ++ drop i xs) (take_all i xs (omega arith)) ∙ (ap (λ l. map cleared xs ++ l) (drop_all i xs (omega arith)) ∙ append-nil (map cleared xs))) }
+    record { after = c.loop-member.invariant.0 ∙ (ap (λ l. map cleared l ++ drop i xs) (take_all i xs (omega arith)) ∙ (ap (λ l. map cleared xs ++ l) (drop_all i xs (omega arith)) ∙ append-nil (map cleared xs))) }
