@@ -1,5 +1,5 @@
 //! One full day closed many times, to be timed.
-use day::{MEMBERS, Member, MemberKind, RECORDS, Record, close_day};
+use day::{DayEntries, MEMBERS, Member, MemberKind, RECORDS, Record, close_day};
 use facts::Kind;
 use house::{House, house};
 use member_day::{BLOCKS, GridEntry, ReadingEntry};
@@ -102,7 +102,8 @@ fn close_once(
         surcharge: nothing,
         line: nothing,
     }; RECORDS];
-    match close_day(tariff, &LargestRemainder, grid, members, &mut records) {
+    let entries = DayEntries { grid, members };
+    match close_day(tariff, &LargestRemainder, &entries, &mut records) {
         Ok(()) => Some(weighed(&records)),
         Err(_) => None,
     }

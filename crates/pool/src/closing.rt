@@ -7,7 +7,7 @@ ghost use Rattle.std.specs.Prelude.{◌≡◌, true, ◌++◌, length, take, dro
 
 use crate::book::Book;
 use crate::refusal::Refusal;
-use day::{Record, Unclosed, close_day};
+use day::{DayEntries, Record, Unclosed, close_day};
 use parting::PartingRule;
 use tariff::Tariff;
 
@@ -34,7 +34,11 @@ pub(crate) fn settle<T: Tariff, R: PartingRule>(
     ensures lines { is_ok result ≡ true → Postable (take record_count records.new) }
 {
     let count = book.count;
-    match close_day(tariff, rule, &book.grid, &book.members[0..count], records) {
+    let entries = DayEntries {
+        grid: &book.grid,
+        members: &book.members[0..count],
+    };
+    match close_day(tariff, rule, &entries, records) {
         Ok(()) => Ok(()),
         Err(unclosed) => Err(refusal_of(unclosed)),
     }
