@@ -11,10 +11,10 @@ use Rattle.day.specs.declared.member.Member.{Member}
 use Rattle.day.specs.declared.unclosed.Unclosed.{Unclosed}
 use Rattle.day.specs.declared.unclosed.Unclosed.TheVariants.{Missing, Short, TooMuch}
 
-abbrev answer : Bool → Bool → Bool → Result (Unit {0}) Unclosed
+abbrev pub answer : Bool → Bool → Bool → Result (Unit {0}) Unclosed
 answer whole few much = cond whole (cond few (Err Short) (cond much (Err TooMuch) (Ok tt))) (Err Missing)
 
-accepted : (whole few much : Bool) → is_ok (answer whole few much) ≡ true → (few ≡ false) × (much ≡ false)
+pub accepted : (whole few much : Bool) → is_ok (answer whole few much) ≡ true → (few ≡ false) × (much ≡ false)
 accepted false few much h = let z : ◌≡◌ {A = ℕ} 0 1 = cc in absurd (omega arith)
 accepted true true much h = let z : ◌≡◌ {A = ℕ} 0 1 = cc in absurd (omega arith)
 accepted true false true h = let z : ◌≡◌ {A = ℕ} 0 1 = cc in absurd (omega arith)

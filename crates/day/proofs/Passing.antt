@@ -1,16 +1,11 @@
 -- A test of every element of a list, one after the other, and what is given where a test is passed. Assumes nothing.
-use Rattle.std.proofs.Common.{◌≡◌, ℕ, ◌+◌, ◌<◌, ◌≤◌, Bool, true, false, ◌&&◌, List, length, get_or, drop, is_some, Ok, Err, sym, refl, ap, ◌∙◌, arith}
+use Rattle.std.proofs.Common.{◌≡◌, ℕ, ◌+◌, ◌<◌, ◌≤◌, Bool, true, false, ◌&&◌, List, length, get_or, drop, Ok, Err, sym, refl, ap, ◌∙◌, arith}
 use Rattle.std.proofs.lemmas.List.{at_drop_more, at_drop_all}
 use Rattle.std.specs.Option.{ok_or}
 use Rattle.std.specs.Bool.{then_some}
 use Rattle.std.specs.List.{list_all}
 
--- what is given where a test is passed is there where it was
-pub when_is : {X : Type 0} (b : Bool) (x : X) → is_some (then_some b x) ≡ b
-when_is true x = refl
-when_is false x = refl
-
--- and where it is asked for, it is that or the refusal
+-- what is given where a test is passed is, where it is asked for, that or the refusal
 pub when_got : {X E : Type 0} (b : Bool) (x y : X) (refusal : E) → ok_or (then_some b x) refusal ≡ Ok y → (b ≡ true) × (y ≡ x)
 when_got true x y refusal is = (refl, cc)
 when_got false x y refusal is = let z : ◌≡◌ {A = ℕ} 0 1 = cc in absurd (omega arith)

@@ -16,14 +16,14 @@ use Rattle.sharing.specs.Laws.{together, charge_at, line_at, distance, Fair}
 use Rattle.sharing.specs.Shares.{lines_of, reserve, too_much}
 use Rattle.sharing.specs.Sides.{no_charge, weight_on, adjustable, by_average}
 use Rattle.quantities.specs.Money.{money}
-use Rattle.day.specs.Dues.{due_of, charge_of, charges_of}
+use Rattle.day.specs.Dues.{all_entered, due_of, charge_of, charges_of}
 use Rattle.day.specs.Laws.{record_in, told, told_at, charges_told, Settled}
 use Rattle.day.specs.Members.{most_members, nobody, member_at}
-use Rattle.day.specs.Records.{no_due, nothing, record_of, record_at, record_count, records_by, day_records, closing}
+use Rattle.day.specs.Records.{no_due, nothing, record_of, record_at, record_count, records_by, day_records}
 use Rattle.day.specs.declared.member.Member.{Member}
 use Rattle.day.specs.declared.record.Record.{Record}
 use Rattle.day.specs.declared.unclosed.Unclosed.{Unclosed}
-use Rattle.day.proofs.Accepted.{few_members, not_too_much}
+use Rattle.day.proofs.Accepted.{accepted, answer}
 use Rattle.day.proofs.DayFacts.{due_level}
 
 abbrev no_money : Paise
@@ -157,14 +157,11 @@ module _ (m : Facts → ℤ) (level : (f : Facts) → Within f → f.metered ≡
         let whole = fair_whole g fair cs (omega (arith, length-map ms (charge_of m gs))) small in
         settled ms few (lines_of g cs) (reserve cs) whole
 
-    -- so do those that are written where the answer is Ok
-    settled_records : (records : ℕ) → is_ok (closing m gs ms records) ≡ true → Settled ms (day_records m g gs ms)
-    settled_records records ok = settled_within (few_members m gs ms records ok) (not_too_much m gs ms records ok)
-
-    -- and so do the first of those that were given
-    pub settled_answer : (records : ℕ) (out rest old : List Record) (r : Result (Unit {0}) Unclosed) → r ≡ closing m gs ms records → out ≡ cond (is_ok r) (day_records m g gs ms ++ rest) old → is_ok r ≡ true → Settled ms (take record_count out)
-    settled_answer records out rest old r answer is ok =
-        let e : out ≡ day_records m g gs ms ++ rest = is ∙ cond-true (is_ok r) (day_records m g gs ms ++ rest) old ok in
+    -- so do the first of the records that are given, where they are written
+    pub settled_answer : (out rest old : List Record) (r : Result (Unit {0}) Unclosed) → length ms ≤ most_members → r ≡ answer (all_entered gs ms) false (too_much (charges_of m gs ms)) → out ≡ cond (is_ok r) (day_records m g gs ms ++ rest) old → is_ok r ≡ true → Settled ms (take record_count out)
+    settled_answer out rest old r few is written ok =
+        let e : out ≡ day_records m g gs ms ++ rest = written ∙ cond-true (is_ok r) (day_records m g gs ms ++ rest) old ok in
         let n = length_records (map (due_of m gs) ms) (lines_of g (charges_of m gs ms)) (reserve (charges_of m gs ms)) in
         let t : take record_count out ≡ day_records m g gs ms = ap (take record_count) e ∙ take_at (day_records m g gs ms) rest record_count n in
-        subst (Settled ms) (sym t) (settled_records records (sym (ap is_ok answer) ∙ ok))
+        let small = (accepted (all_entered gs ms) false (too_much (charges_of m gs ms)) (sym (ap is_ok is) ∙ ok)).1 in
+        subst (Settled ms) (sym t) (settled_within few small)

@@ -1,10 +1,9 @@
 //! One full day closed many times, to be timed.
-use day::{MEMBERS, Member, MemberKind, RECORDS, Record, close_day};
+use day::{DayEntries, MEMBERS, Member, MemberKind, RECORDS, Record, close_day};
 use facts::Kind;
 use house::{House, house};
 use member_day::{BLOCKS, GridEntry, ReadingEntry};
 use parting::LargestRemainder;
-use quantities::Paise;
 
 /// What is answered for a day that is not closed.
 const NOT_CLOSED: i64 = i64::MIN;
@@ -83,13 +82,9 @@ fn close_once(
     grid: &[Option<GridEntry>; BLOCKS],
     members: &[Member],
 ) -> Option<i64> {
-    let nothing = Paise::NOTHING;
-    let mut records = [Record {
-        base: nothing,
-        surcharge: nothing,
-        line: nothing,
-    }; RECORDS];
-    close_day(tariff, &LargestRemainder, grid, members, &mut records).ok()?;
+    let mut records = [Record::default(); RECORDS];
+    let entries = DayEntries { grid, members };
+    close_day(tariff, &LargestRemainder, &entries, &mut records).ok()?;
     Some(weighed(&records))
 }
 

@@ -7,7 +7,7 @@ ghost use Rattle.std.specs.Prelude.{◌≡◌, true, ◌++◌, length, take, dro
 
 use crate::pool::Pool;
 use crate::refusal::Refusal;
-use day::{RECORDS, Record, Unclosed, close_day};
+use day::{DayEntries, RECORDS, Record, Unclosed, close_day};
 use parting::PartingRule;
 use tariff::Tariff;
 
@@ -30,8 +30,11 @@ impl<T: Tariff, R: PartingRule> Pool<T, R> {
         ensures records { records.new ≡ (if is_ok result then records_of (T.Tariff.meaning self.now.tariff) (R.PartingRule.shares self.now.rule) self.now.book ++ drop record_count records.old else records.old) }
         ensures lines { is_ok result ≡ true → Postable (take record_count records.new) }
     {
-        let members = &self.book.members[0..self.book.count];
-        close_day(&self.tariff, &self.rule, &self.book.grid, members, records)?;
+        let entries = DayEntries {
+            grid: &self.book.grid,
+            members: &self.book.members[0..self.book.count],
+        };
+        close_day(&self.tariff, &self.rule, &entries, records)?;
         Ok(())
     }
 

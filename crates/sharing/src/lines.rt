@@ -10,16 +10,16 @@ use crate::charge::Charge;
 use parting::{MOST_WEIGHTS, PartingRule};
 use quantities::{Paise, Side};
 
-/// Writes what `f` gives for each charge.
-fn write_each<X: Drop, F: Fn(Charge) -> X>(charges: &[Charge], into: &mut [X], f: F)
+/// Writes what `f` gives for each place and its charge.
+fn write_each<X: Drop, F: Fn(usize, Charge) -> X>(charges: &[Charge], into: &mut [X], f: F)
     requires room { length into.old ≡ length charges.now }
-    requires callable { F.IsAlwaysCallable f }
+    requires callable { (k : ℕ) → k < length charges.now → F.pre f k (slice_index_or charges.now k no_charge) }
     ensures room { length into.new ≡ length charges.now }
-    ensures after { (k : ℕ) (d : X) → k < length charges.now → F.post f (slice_index_or charges.now k no_charge) (slice_index_or into.new k d) }
+    ensures after { (k : ℕ) (d : X) → k < length charges.now → F.post f k (slice_index_or charges.now k no_charge) (slice_index_or into.new k d) }
 {
     // By place, since a proof knows nothing of what is written through a `zip` with `iter_mut`.
     for (place, charge) in charges.iter().enumerate() {
-        into[place] = f(*charge);
+        into[place] = f(place, *charge);
     }
 }
 
@@ -28,7 +28,7 @@ fn write_weights(side: Side, charges: &[Charge], into: &mut [u64])
     requires room { length into.old ≡ length charges.now }
     ensures after { into.new ≡ weights side charges.now }
 {
-    write_each(charges, into, |charge| charge.on(side).adjustable);
+    write_each(charges, into, |_, charge| charge.on(side).adjustable);
 }
 
 /// Writes the charges as lines.
@@ -36,7 +36,7 @@ pub(crate) fn write_charges(charges: &[Charge], lines: &mut [Paise])
     requires room { length lines.old ≡ length charges.now }
     ensures after { lines.new ≡ map (λ c. c.sum) charges.now }
 {
-    write_each(charges, lines, |charge| charge.sum);
+    write_each(charges, lines, |_, charge| charge.sum);
 }
 
 /// Writes the shares of one side; the rule is not asked where nothing is adjustable.
@@ -81,10 +81,10 @@ fn write_lines(charges: &[Charge], payable: &[u64], receivable: &[u64], lines: &
     requires small { (sum payable.now ≤ most_money) × (sum receivable.now ≤ most_money) }
     ensures after { lines.new ≡ lines_by charges.now payable.now receivable.now }
 {
-    // By place as in `write_each`; the shares lie in two tables since a rule writes a slice of numbers.
-    for (place, charge) in charges.iter().enumerate() {
-        lines[place] = line(*charge, payable[place], receivable[place]);
-    }
+    // The shares lie in two tables, since a rule writes a slice of numbers.
+    write_each(charges, lines, |place, charge| {
+        line(charge, payable[place], receivable[place])
+    });
 }
 
 /// Parts both sides and writes the lines from the shares.
