@@ -25,9 +25,7 @@ impl<'a> Cell<'a> {
         ensures answer { result ≡ bytes_of self.entry }
     {
         match self {
-            Cell::Number(at, _) => at,
-            Cell::Empty(at) => at,
-            Cell::Other(at) => at,
+            Cell::Number(at, _) | Cell::Empty(at) | Cell::Other(at) => at,
         }
     }
 

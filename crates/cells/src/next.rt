@@ -52,17 +52,6 @@ fn cell_from(rest: &[u8], start: usize) -> Cell
     Cell::Number(here, run.value)
 }
 
-/// What comes after the cell that ends at `end`.
-fn after(bytes: &[u8], end: usize) -> Next
-    ensures answer { result ≡ next_at bytes.now end }
-{
-    match bytes.get(end) {
-        Some(b',') => Next::Cell(end + 1),
-        Some(_) => Next::Line(end + 1),
-        None => Next::Line(bytes.len()),
-    }
-}
-
 /// What comes first in a line that starts at `at`. Past the end of the bytes there is no line, and no cell.
 fn start_of(bytes: &[u8], at: usize) -> Next
     ensures answer { result ≡ start_of bytes.now at }
@@ -87,6 +76,17 @@ impl<'a> LineCells<'a> {
         }
     }
 
+    /// What comes after the cell that ends at `end`.
+    fn after(&self, end: usize) -> Next
+        ensures answer { result ≡ next_at self.now.bytes.now end }
+    {
+        match self.bytes.get(end) {
+            Some(b',') => Next::Cell(end + 1),
+            Some(_) => Next::Line(end + 1),
+            None => Next::Line(self.bytes.len()),
+        }
+    }
+
     /// Is a cell left?
     pub fn has_cell(&self) -> bool
         ensures answer { result ≡ is_some_left (cells_left self.now) }
@@ -104,7 +104,7 @@ impl<'a> LineCells<'a> {
             return None;
         };
         let cell = cell_from(&self.bytes[at..], at);
-        self.next = after(self.bytes, at + cell.len());
+        self.next = self.after(at + cell.len());
         Some(cell)
     }
 

@@ -22,13 +22,15 @@ fn run(rt: &HostRuntime) -> anyhow::Result<()> {
     let times = asked(rt)?;
     let text = full_readings(rt.alloc())?;
     let bytes = text.as_bytes();
-    let Ok(total) = read_total(bytes) else {
-        return Err(anyhow!("the sheet has a fault"));
-    };
+    let total = total_of(bytes)?;
     print_total(rt, bytes.len(), total, times)?;
     let least = fastest(rt, bytes, times)?;
     eprintln!(rt; "nanoseconds of the fastest reading,{least}")?;
     Ok(())
+}
+
+fn total_of(bytes: &[u8]) -> anyhow::Result<Total> {
+    read_total(bytes).map_err(|_| anyhow!("the sheet has a fault"))
 }
 
 /// The nanoseconds of the fastest of some readings.
@@ -36,9 +38,7 @@ fn fastest(rt: &HostRuntime, bytes: &[u8], times: u32) -> anyhow::Result<u128> {
     let mut least = u128::MAX;
     for _ in 0..times {
         let start = Instant::now(rt)?;
-        if read_total(bytes).is_err() {
-            return Err(anyhow!("the sheet has a fault"));
-        }
+        total_of(bytes)?;
         least = least.min(start.elapsed(rt)?.as_nanos());
     }
     Ok(least)

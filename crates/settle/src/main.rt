@@ -1,7 +1,7 @@
 //! Tests the three sheets of the folder where it is run, and prints the first fault, or how many rows each has.
 #![tactic(auto)]
 
-use sheet_files::{Counts, Stop, print_stop, sheet_bytes, test_sheets};
+use sheet_files::{Counts, Sheets, Stop, print_stop, test_sheets};
 use std::io;
 
 fn main(rt: HostRuntime) -> anyhow::Result<()> {
@@ -9,10 +9,7 @@ fn main(rt: HostRuntime) -> anyhow::Result<()> {
 }
 
 fn run(rt: &HostRuntime) -> anyhow::Result<()> {
-    let members = sheet_bytes(rt, "members.csv")?;
-    let grid = sheet_bytes(rt, "grid.csv")?;
-    let readings = sheet_bytes(rt, "readings.csv")?;
-    match test_sheets(&members, &grid, &readings) {
+    match test_sheets(&Sheets::read(rt)?) {
         Ok(counts) => print_counts(rt, counts)?,
         Err(fault) => print_stop(rt, Stop::from(fault))?,
     }

@@ -8,7 +8,7 @@ mod settled;
 use day::Record;
 use pool::RESERVE;
 use settled::{Settled, settle};
-use sheet_files::{print_stop, sheet_bytes};
+use sheet_files::{Sheets, print_stop};
 use std::io;
 
 fn main(rt: HostRuntime) -> anyhow::Result<()> {
@@ -16,10 +16,7 @@ fn main(rt: HostRuntime) -> anyhow::Result<()> {
 }
 
 fn run(rt: &HostRuntime) -> anyhow::Result<()> {
-    let members = sheet_bytes(rt, "members.csv")?;
-    let grid = sheet_bytes(rt, "grid.csv")?;
-    let readings = sheet_bytes(rt, "readings.csv")?;
-    match settle(&members, &grid, &readings) {
+    match settle(&Sheets::read(rt)?) {
         Ok(settled) => print_lines(rt, &settled)?,
         Err(stop) => print_stop(rt, stop)?,
     }

@@ -4,7 +4,7 @@ use day::{RECORDS, Record};
 use house::house;
 use parting::LargestRemainder;
 use pool::{Pool, Refusal};
-use sheet_files::{Stop, test_sheets};
+use sheet_files::{Sheets, Stop, test_sheets};
 use sheet_kinds::{Grid, Members, Readings, SheetKind, Spot};
 use sheets::NamedSheet;
 
@@ -53,29 +53,22 @@ pub struct Settled {
 }
 
 /// Settles the day of three sheets, which are tested whole before the first call.
-pub fn settle(members: &[u8], grid: &[u8], readings: &[u8]) -> Result<Settled, Stop> {
-    test_sheets(members, grid, readings)?;
+pub fn settle(sheets: &Sheets) -> Result<Settled, Stop> {
+    test_sheets(sheets)?;
     let no_line = |refusal| refused(CLOSING, 0, refusal);
     let mut pool = Pool::new(house(), LargestRemainder);
-    let count = pass(
-        &Members,
-        members,
-        &mut pool,
-        |pool, _, row| enrol(pool, row),
-    )?;
+    let members = pass(&Members, &sheets.members, &mut pool, |pool, _, row| {
+        enrol(pool, row)
+    })?;
     pool.open(1).map_err(no_line)?;
-    pass(&Members, members, &mut pool, amount)?;
-    pass(&Grid, grid, &mut pool, |pool, _, row| grid_row(pool, row))?;
-    pass(
-        &Readings,
-        readings,
-        &mut pool,
-        |pool, _, row| reading(pool, row),
-    )?;
+    pass(&Members, &sheets.members, &mut pool, amount)?;
+    pass(&Grid, &sheets.grid, &mut pool, |pool, _, row| {
+        grid_row(pool, row)
+    })?;
+    pass(&Readings, &sheets.readings, &mut pool, |pool, _, row| {
+        reading(pool, row)
+    })?;
     let mut records = [Record::default(); RECORDS];
     pool.close(&mut records).map_err(no_line)?;
-    Ok(Settled {
-        members: count,
-        records,
-    })
+    Ok(Settled { members, records })
 }

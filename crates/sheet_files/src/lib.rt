@@ -5,6 +5,6 @@ mod files;
 mod stop;
 mod tested;
 
-pub use files::sheet_bytes;
+pub use files::Sheets;
 pub use stop::{Stop, print_stop};
 pub use tested::{Counts, test_sheets};

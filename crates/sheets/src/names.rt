@@ -25,6 +25,7 @@ pub(crate) fn columns_of<K: SheetKind>(kind: &K, mut cells: LineCells) -> Option
     let names = kind.names();
     let len = names.len();
     let mut at = [0; MOST_NAMES];
+    // The place is needed: the columns before it are those that are taken.
     for i in 0..len {
         let cell = cells.next_cell()?;
         let k = index_of(names, cell.bytes())?;

@@ -8,20 +8,13 @@ ghost use Rattle.std.specs.Prelude.{◌≡◌, length, IfOk};
 use crate::states::NamedSheet;
 use sheet_kinds::{SheetFault, SheetKind};
 
-/// The count of a sheet's rows, line after line.
-fn counted<K: SheetKind>(kind: &K, bytes: &[u8]) -> Result<usize, SheetFault>
-    ensures answer { result ≡ map_ok length (sheet_rows K.SheetKind.table bytes.now) }
-{
-    let mut sheet = NamedSheet::open(kind, bytes)?;
-    while let Some(_row) = sheet.next_row(kind)? {}
-    Ok(sheet.ended().rows())
-}
-
 /// How many rows a sheet has, or its first fault. Every value of a row has ten digits at most, and such rows, written out, read back.
 pub fn count_rows<K: SheetKind>(kind: &K, bytes: &[u8]) -> Result<usize, SheetFault>
     ensures answer { result ≡ map_ok length (sheet_rows K.SheetKind.table bytes.now) }
     ensures law { IfOk (sheet_rows K.SheetKind.table bytes.now) SmallRows }
     ensures round_trip { ReadsBack K.SheetKind.table }
 {
-    counted(kind, bytes)
+    let mut sheet = NamedSheet::open(kind, bytes)?;
+    while let Some(_row) = sheet.next_row(kind)? {}
+    Ok(sheet.ended().rows())
 }

@@ -1,6 +1,6 @@
 -- The rows that are counted.
 use Rattle.sheets.proofs.Counts.{Counted}
-use Rattle.sheets.proofs.whole.counted.Given as goal
+use Rattle.sheets.proofs.whole.count_rows.Given as goal
 use Rattle.sheets.specs.States.{standing}
 use Rattle.std.proofs.Common.{length}
 
