@@ -34,10 +34,6 @@ due_on k n base = record { base = money base; surcharge = money (pos (surcharge_
 abbrev pub day_due : (Facts → ℤ) → Kind → List Facts → Due
 day_due m k fs = due_on k (sevenths_of fs) (base_of m fs)
 
--- base and sevenths, of which the due is made
-abbrev pub day_sums : (Facts → ℤ) → List Facts → Paise × ℕ
-day_sums m fs = (money (base_of m fs), sevenths_of fs)
-
 -- the highest charge in every block: 9,600,000,000 paise
 abbrev pub most_base : ℕ
 most_base = blocks * most_charge

@@ -1,5 +1,5 @@
 //! What a member's day comes to by any tariff: the sum of the block charges, and the surcharge on it.
-ghost use Rattle.member_day.specs.Days.{DueBounded, SumsBounded, day_due, day_sums, most_surcharge, surcharge_of};
+ghost use Rattle.member_day.specs.Days.{DueBounded, SumsBounded, day_due, most_surcharge, surcharge_of};
 ghost use Rattle.member_day.specs.Entries.{day_facts};
 ghost use Rattle.member_day.specs.Laws.{AsScheduled};
 ghost use Rattle.std.specs.Prelude.{◌≡◌, pos, ◌≤ℤ◌, IfSome};
@@ -26,27 +26,6 @@ fn surcharge(kind: Kind, sevenths: u32, base: Paise) -> Paise
     }
 }
 
-/// The sum of the block charges, and the sum over the runs of a seventh of the length.
-fn sums<T: Tariff>(
-    tariff: &T,
-    kind: Kind,
-    readings: &[Option<ReadingEntry>; BLOCKS],
-    grid: &[Option<GridEntry>; BLOCKS],
-) -> Option<(Paise, u32)>
-    ensures answer { result ≡ option_map (day_sums (T.Tariff.meaning tariff.now)) (day_facts kind readings.now grid.now) }
-    ensures bound { IfSome result SumsBounded }
-    ensures law { AsScheduled readings.now → IfSome result (λ s. s.0.paise ≡ pos 0) }
-{
-    let mut base = Paise::NOTHING;
-    let mut runs = RunCount::new();
-    for (reading, row) in readings.iter().zip(grid) {
-        let facts = facts_at(kind, *reading, *row)?;
-        base = base + charge_by(tariff, &facts);
-        runs.step(direction_of(&facts));
-    }
-    Some((base, runs.sevenths()))
-}
-
 /// Base and surcharge of a member's day, none where an entry is missing or outside its limits.
 pub fn member_day<T: Tariff>(
     tariff: &T,
@@ -58,9 +37,13 @@ pub fn member_day<T: Tariff>(
     ensures bound { IfSome result DueBounded }
     ensures law { AsScheduled readings.now → IfSome result (λ due. (due.base.paise ≡ pos 0) × (due.surcharge.paise ≡ pos 0)) }
 {
-    let (base, sevenths) = sums(tariff, kind, readings, grid)?;
-    Some(Due {
-        base,
-        surcharge: surcharge(kind, sevenths, base),
-    })
+    let mut base = Paise::NOTHING;
+    let mut runs = RunCount::new();
+    for (reading, row) in readings.iter().zip(grid) {
+        let facts = facts_at(kind, *reading, *row)?;
+        base = base + charge_by(tariff, &facts);
+        runs.step(direction_of(&facts));
+    }
+    let surcharge = surcharge(kind, runs.sevenths(), base);
+    Some(Due { base, surcharge })
 }

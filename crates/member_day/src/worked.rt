@@ -7,6 +7,7 @@ ghost use Rattle.member_day.specs.Worked.{laid_out};
 use crate::Direction::{self, Level, Over, Under};
 use crate::runs::RunCount;
 
+/// The stretches of a call, those not needed without blocks: as many at most, so that every count fits.
 const STRETCHES: usize = 5;
 
 /// So many blocks of one direction.

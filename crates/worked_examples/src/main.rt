@@ -16,9 +16,23 @@ fn main(rt: HostRuntime) -> anyhow::Result<()> {
 }
 
 fn run(rt: &impl Print) -> anyhow::Result<()> {
-    rates(rt)?;
-    limits(rt)?;
-    bands(rt)?;
+    let rates = [(4_984, 8_000), (4_999, 4_266), (5_004, 800), (5_005, 0)];
+    print_each(
+        rt,
+        "Rates of the vector at price 4000",
+        "frequency",
+        rate_at,
+        &rates,
+    )?;
+    let limits = [
+        (10_000, 1_250),
+        (10_001, 1_200),
+        (62_499, 7_499),
+        (62_500, 7_500),
+    ];
+    print_each(rt, "Volume limits", "scheduled", limit_at, &limits)?;
+    let bands = [(150, 0), (151, 50), (400, 22_500)];
+    print_each(rt, "Bands at 1000 available", "deviation", bands_at, &bands)?;
     sellers(rt)?;
     another_pile(rt)?;
     runs(rt)?;
@@ -45,41 +59,6 @@ where
         println!(rt; "{of} {number}: came {came}, by hand {by_hand}")?;
     }
     Ok(())
-}
-
-fn rates(rt: &impl Print) -> anyhow::Result<()> {
-    print_each(
-        rt,
-        "Rates of the vector at price 4000",
-        "frequency",
-        rate_at,
-        &[(4_984, 8_000), (4_999, 4_266), (5_004, 800), (5_005, 0)],
-    )
-}
-
-fn limits(rt: &impl Print) -> anyhow::Result<()> {
-    print_each(
-        rt,
-        "Volume limits",
-        "scheduled",
-        limit_at,
-        &[
-            (10_000, 1_250),
-            (10_001, 1_200),
-            (62_499, 7_499),
-            (62_500, 7_500),
-        ],
-    )
-}
-
-fn bands(rt: &impl Print) -> anyhow::Result<()> {
-    print_each(
-        rt,
-        "Bands at 1000 available",
-        "deviation",
-        bands_at,
-        &[(150, 0), (151, 50), (400, 22_500)],
-    )
 }
 
 fn sellers(rt: &impl Print) -> anyhow::Result<()> {

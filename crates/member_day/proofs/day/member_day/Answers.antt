@@ -2,7 +2,7 @@
 use Rattle.std.proofs.lemmas.Slice.Zip.{Zip-more}
 use Rattle.facts.specs.Facts.{plain}
 use Rattle.member_day.proofs.DaySteps.{one_more}
-use Rattle.member_day.proofs.day.sums.Goals as goal
+use Rattle.member_day.proofs.day.member_day.Goals as goal
 
 pub loop-reading-preserved : goal.loop-reading-preserved
 loop-reading-preserved g c =

@@ -1,8 +1,8 @@
--- What the blocks to come add to the sums so far gives the sums of the day.
+-- What the blocks to come add to the sums so far gives the due of the day.
 use Rattle.std.specs.Iterator.Adapters.{zip_first, zip_second}
 use Rattle.std.specs.Slice.Iter.{iter_rest}
 use Rattle.member_day.proofs.DaySteps.{Underway}
-use Rattle.member_day.proofs.day.sums.Given as goal
+use Rattle.member_day.proofs.day.member_day.Given as goal
 
 abbrev pub invariant-loop-reading : goal.invariant-loop-reading
 invariant-loop-reading g l = record {
