@@ -22,15 +22,14 @@ fn run(rt: &HostRuntime) -> anyhow::Result<()> {
     let times = asked(rt)?;
     let text = full_readings(rt.alloc())?;
     let bytes = text.as_bytes();
-    let total = total_of(bytes)?;
+    // With `map_err` here and below the compiler places the loop of the digits worse: 75.5 µs for a reading, and 51.7 so.
+    let Ok(total) = read_total(bytes) else {
+        return Err(anyhow!("the sheet has a fault"));
+    };
     print_total(rt, bytes.len(), total, times)?;
     let least = fastest(rt, bytes, times)?;
     eprintln!(rt; "nanoseconds of the fastest reading,{least}")?;
     Ok(())
-}
-
-fn total_of(bytes: &[u8]) -> anyhow::Result<Total> {
-    read_total(bytes).map_err(|_| anyhow!("the sheet has a fault"))
 }
 
 /// The nanoseconds of the fastest of some readings.
@@ -38,7 +37,9 @@ fn fastest(rt: &HostRuntime, bytes: &[u8], times: u32) -> anyhow::Result<u128> {
     let mut least = u128::MAX;
     for _ in 0..times {
         let start = Instant::now(rt)?;
-        total_of(bytes)?;
+        if read_total(bytes).is_err() {
+            return Err(anyhow!("the sheet has a fault"));
+        }
         least = least.min(start.elapsed(rt)?.as_nanos());
     }
     Ok(least)
