@@ -9,9 +9,6 @@ use Rattle.journal.proofs.Days.{lawful}
 use Rattle.journal.proofs.Turning.{calls_of, turn_calls, turn_journal, turn_beyond, turn_stands}
 use Rattle.journal.proofs.runs.resume.Goals as goal
 
-pub loop-place-init : goal.loop-place-init
-loop-place-init g c = record { tariff = refl; rule = refl; calls = refl; beyond = refl; stands = λ J st. st }
-
 pub loop-place-preserved : goal.loop-place-preserved
 loop-place-preserved g c =
     let i = c.loop-place.place in
