@@ -1,5 +1,5 @@
 -- A call that is performed and noted leaves a pool that stands after it.
-use Rattle.std.proofs.Common.{◌≡◌, ◌∷◌, replicate, sym, refl, ap, ◌∙◌, subst, rules}
+use Rattle.std.proofs.Common.{◌≡◌, ◌∷◌, replicate, sym, ap, ◌∙◌, subst, rules}
 use Rattle.day.specs.Records.{nothing, record_count}
 use Rattle.journal.specs.Law.{Stands}
 use Rattle.journal.specs.Steps.{outcome}

@@ -1,5 +1,5 @@
 -- One call more is noted, and the pool stands after it; where a pool stands after a journal, the law holds of that journal.
-use Rattle.std.proofs.Common.{◌≡◌, ◌-◌, ◌<◌, ◌++◌, List, reverse, length, take, drop, pos, sym, refl, ap, ◌∙◌, subst, arith}
+use Rattle.std.proofs.Common.{◌≡◌, ◌-◌, ◌<◌, ◌++◌, List, reverse, length, take, drop, pos, sym, ap, ◌∙◌, subst, arith}
 use native.Mathlib.Nat.{sub-zero}
 use Rattle.std.proofs.lemmas.List.{length-take-le, take_all}
 use Rattle.journal.specs.Law.{Stands}
