@@ -61,12 +61,7 @@ within_block : (z : ℤ) → within 0 last_block z ≡ true → nat_abs z < bloc
 within_block (pos n) h = let k = leb-true n last_block (and_parts (leb 0 n) (leb n last_block) h).1 in omega arith
 within_block (negsuc n) h = absurd (false≢true h)
 
--- the ways that a call ends: accepted with the book changed, or refused with the book as it was
-by_answer : {X : Type 0} (f : X → Reply) (r : Result X Refusal) (changed b : Book) (P : Result Reply Refusal → Book → Type 0) →
-    ((x : X) → r ≡ Ok x → P (Ok (f x)) changed) → ((e : Refusal) → P (Err e) b) → P (result_map_both f (λ refusal. refusal) r) (cond (is_ok r) changed b)
-by_answer f (Ok x) changed b P yes' no' = yes' x refl
-by_answer f (Err e) changed b P yes' no' = no' e
-
+-- the ways that a query and a close end
 by_asks : (r : Result Paise Refusal) (P : Result Reply Refusal → Type 0) → ((p : Paise) → P (Ok (Sum p))) → ((x : Refusal) → P (Err x)) → P (summed r)
 by_asks (Ok p) P yes' no' = yes' p
 by_asks (Err x) P yes' no' = no' x
@@ -202,49 +197,50 @@ module _ (m : Facts → ℤ) (g : ℕ → List ℕ → List ℕ) where
       (λ k lk. let o = st.accounts k lk in let p = sum_at_posted b.accounts.table rs k (omega (arith, s.full)) in omega (arith, ints))
       st.cash st.kinds refl st.day st.grid_rows st.readings st.amounts
 
+  -- with this answer and this book a pool that stood after J stands after the call and J
+  abbrev Keeps : Call → List Entry → Result Reply Refusal → Book → Type 0
+  Keeps c J a w = Sound w → a ≡ answer_in m J c → Stands m g (noted c a no_records w ∷ J) w
+
+  -- a call ends accepted with the book changed, or refused with the book as it was
+  by_call : {X : Type 0} (f : X → Reply) (c : Call) (J : List Entry) (b changed : Book) (r : Result X Refusal) → Sound b → Stands m g J b →
+      ((x : X) → r ≡ Ok x → Keeps c J (Ok (f x)) changed) → Keeps c J (result_map_both f (λ refusal. refusal) r) (cond (is_ok r) changed b)
+  by_call f c J b changed (Ok x) s st yes' = yes' x refl
+  by_call f c J b changed (Err e) s st yes' = λ _. refused_stands c e J b s st
+
   -- one call, whichever it is
   outcome_stands : (c : Call) (J : List Entry) (b : Book) → Sound b → Sound (outcome m g b c).book → Stands m g J b → (outcome m g b c).answer ≡ answer_in m J c →
       Stands m g (noted c (outcome m g b c).answer ((outcome m g b c).records no_records) (outcome m g b c).book ∷ J) (outcome m g b c).book
   outcome_stands (Enrol kind) J b s t st tells =
-      by_answer Enrolled (enrolling b kind) (enrolled_as b kind) b (λ a w. Sound w → a ≡ answer_in m J (Enrol kind) → Stands m g (noted (Enrol kind) a no_records w ∷ J) w)
-      (λ n ok t'. enrol_stands kind n J b s t' st ok) (λ x _. refused_stands (Enrol kind) x J b s st) t tells
+      by_call Enrolled (Enrol kind) J b (enrolled_as b kind) (enrolling b kind) s st (λ n ok t'. enrol_stands kind n J b s t' st ok) t tells
   outcome_stands (Open day) J b s t st tells =
-      by_answer (λ _. Done) (opening b day) (opened_on b day) b (λ a w. Sound w → a ≡ answer_in m J (Open day) → Stands m g (noted (Open day) a no_records w ∷ J) w)
-      (λ _ ok t'. open_stands day J b s t' st) (λ x _. refused_stands (Open day) x J b s st) t tells
+      by_call (λ _. Done) (Open day) J b (opened_on b day) (opening b day) s st (λ _ ok t'. open_stands day J b s t' st) t tells
   outcome_stands (GridRow block hz100 price) J b s t st tells =
-      by_answer (λ _. Done) (entering_grid b block hz100 price) (with_grid b block hz100 price) b (λ a w. Sound w → a ≡ answer_in m J (GridRow block hz100 price) → Stands m g (noted (GridRow block hz100 price) a no_records w ∷ J) w)
-      (λ _ ok t'. grid_stands block hz100 price J b s t' st ok) (λ x _. refused_stands (GridRow block hz100 price) x J b s st) t tells
+      by_call (λ _. Done) (GridRow block hz100 price) J b (with_grid b block hz100 price) (entering_grid b block hz100 price) s st
+      (λ _ ok t'. grid_stands block hz100 price J b s t' st ok) t tells
   outcome_stands (Reading member block scheduled metered available) J b s t st tells =
-      by_answer (λ _. Done) (entering_reading b member block scheduled metered available) (read_by b member block scheduled metered available) b
-      (λ a w. Sound w → a ≡ answer_in m J (Reading member block scheduled metered available) → Stands m g (noted (Reading member block scheduled metered available) a no_records w ∷ J) w)
+      by_call (λ _. Done) (Reading member block scheduled metered available) J b (read_by b member block scheduled metered available) (entering_reading b member block scheduled metered available) s st
       (λ _ ok t'.
       let f = found_by (metered_member b.count (kind_of_member b member) member) (λ found. unless (not (within 0 last_block block && reading_fits found.1 scheduled metered available)) OutsideLimit (Ok tt)) (passed (not b.opened) _ _ _ ok).1 in
       let lm = enrolled_place b.count member (not-false _ (passed (not (enrolled b.count member)) _ _ _ f.1).0) in
       let lb = within_block block (and_parts _ _ (not-false _ (passed (not (within 0 last_block block && reading_fits f.0.1 scheduled metered available)) _ _ _ f.2).0)).0 in
-      reading_stands member block scheduled metered available J b s t' st lm lb)
-      (λ x _. refused_stands (Reading member block scheduled metered available) x J b s st) t tells
+      reading_stands member block scheduled metered available J b s t' st lm lb) t tells
   outcome_stands (Amount member paise) J b s t st tells =
-      by_answer (λ _. Done) (entering_amount b member paise) (amount_by b member paise) b (λ a w. Sound w → a ≡ answer_in m J (Amount member paise) → Stands m g (noted (Amount member paise) a no_records w ∷ J) w)
+      by_call (λ _. Done) (Amount member paise) J b (amount_by b member paise) (entering_amount b member paise) s st
       (λ _ ok t'.
       let f = found_by (regional_member b.count (kind_of_member b member) member) (λ _. unless (not (within_either most_money paise)) OutsideLimit (Ok tt)) (passed (not b.opened) _ _ _ ok).1 in
       let lm = enrolled_place b.count member (not-false _ (passed (not (enrolled b.count member)) _ _ _ f.1).0) in
-      amount_stands member paise J b s t' st lm)
-      (λ x _. refused_stands (Amount member paise) x J b s st) t tells
+      amount_stands member paise J b s t' st lm) t tells
   outcome_stands (Close room) J b s t st tells =
       by_fills (closing_of m b room) (records_of m g b) (closed_with b (records_of m g b)) b (λ a w rs. Sound w → a ≡ answer_in m J (Close room) → Stands m g (noted (Close room) a rs w ∷ J) w)
       (λ ok t'. close_stands room J b s t' st) (λ x _. refused_stands (Close room) x J b s st) t tells
   outcome_stands DropDay J b s t st tells =
-      by_answer (λ _. Done) (dropping b) (ended b) b (λ a w. Sound w → a ≡ answer_in m J DropDay → Stands m g (noted DropDay a no_records w ∷ J) w)
-      (λ _ ok t'. drop_stands J b s t' st) (λ x _. refused_stands DropDay x J b s st) t tells
+      by_call (λ _. Done) DropDay J b (ended b) (dropping b) s st (λ _ ok t'. drop_stands J b s t' st) t tells
   outcome_stands (PayIn account paise) J b s t st tells =
-      by_answer (λ _. Done) (paying_in b account paise) (paid_in b account paise) b (λ a w. Sound w → a ≡ answer_in m J (PayIn account paise) → Stands m g (noted (PayIn account paise) a no_records w ∷ J) w)
-      (λ _ ok t'. pay_in_stands account paise J b s t' st ok) (λ x _. refused_stands (PayIn account paise) x J b s st) t tells
+      by_call (λ _. Done) (PayIn account paise) J b (paid_in b account paise) (paying_in b account paise) s st (λ _ ok t'. pay_in_stands account paise J b s t' st ok) t tells
   outcome_stands (PayOut account paise) J b s t st tells =
-      by_answer (λ _. Done) (paying_out b account paise) (paid_out b account paise) b (λ a w. Sound w → a ≡ answer_in m J (PayOut account paise) → Stands m g (noted (PayOut account paise) a no_records w ∷ J) w)
-      (λ _ ok t'. pay_out_stands account paise J b s t' st ok) (λ x _. refused_stands (PayOut account paise) x J b s st) t tells
+      by_call (λ _. Done) (PayOut account paise) J b (paid_out b account paise) (paying_out b account paise) s st (λ _ ok t'. pay_out_stands account paise J b s t' st ok) t tells
   outcome_stands (Account account) J b s t st tells =
-      by_asks (asking b account) (λ a. a ≡ answer_in m J (Account account) → Stands m g (noted (Account account) a no_records b ∷ J) b)
-      (λ p. account_stands account p J b s st) (λ x. refused_stands (Account account) x J b s st) tells
+      by_asks (asking b account) (λ a. Keeps (Account account) J a b) (λ p _. account_stands account p J b s st) (λ x _. refused_stands (Account account) x J b s st) t tells
   outcome_stands Cash J b s t st tells = cash_stands b.cash J b s st tells
 
   -- one call as it was performed

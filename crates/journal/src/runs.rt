@@ -42,6 +42,7 @@ pub fn resume<T: Tariff, R: PartingRule>(
 {
     let count = calls.len().min(journal.len());
     let taken = &calls[0..count];
+    // by place: what a zip over `iter_mut` writes is not known to a proof afterwards
     for (place, call) in taken.iter().enumerate() {
         journal[place] = perform(pool, *call);
     }

@@ -14,18 +14,16 @@ use Rattle.member_day.specs.declared.entries.GridEntry.{GridEntry}
 use Rattle.member_day.specs.declared.entries.ReadingEntry.{ReadingEntry}
 use Rattle.sharing.specs.Shares.{too_much}
 use Rattle.day.specs.Dues.{charges_of, complete, entered, entered_as}
-use Rattle.day.specs.Laws.{Settled}
 use Rattle.day.specs.Members.{most_members, member_at, nobody}
 use Rattle.day.specs.Records.{closing, record_count, short}
 use Rattle.day.specs.declared.member.Member.{Member}
 use Rattle.day.specs.declared.member.MemberKind.{MemberKind}
 use Rattle.day.specs.declared.member.MemberKind.TheVariants.{Metered, Regional}
-use Rattle.day.specs.declared.record.Record.{Record}
 use Rattle.day.specs.declared.unclosed.Unclosed.{Unclosed}
 use Rattle.day.specs.declared.unclosed.Unclosed.TheVariants.{Missing, Short, TooMuch}
 use Rattle.pool.specs.Calls.{settling}
 use Rattle.pool.specs.Rules.{refusal_of, settle_rule, unless}
-use Rattle.pool.specs.Sound.{Sound, Postable, grid_fine, reading_fine}
+use Rattle.pool.specs.Sound.{Sound, grid_fine, reading_fine}
 use Rattle.pool.specs.Tables.{all_entered, given_by, members_of}
 use Rattle.pool.specs.declared.book.Book.{Book}
 use Rattle.pool.specs.declared.refusal.Refusal.{Refusal}
@@ -132,6 +130,3 @@ pub settle_is : (m : Facts → ℤ) (b : Book) (room : ℕ) → Sound b → refu
 settle_is m b room s =
     as_rule (complete b.grid (members_of b)) (short (members_of b) room) (too_much (charges_of m b.grid (members_of b))) room (short_is b room s)
     ∙ ap (λ given. settle_rule given room (too_much (charges_of m b.grid (members_of b)))) (complete_is b s)
-
-pub postable : (ms : List Member) (rs : List Record) → Settled ms rs → Postable rs
-postable ms rs s = record { seventeen = s.seventeen; within = s.within; even = s.even }

@@ -41,10 +41,6 @@ length_posted [] rs = refl
 length_posted (a ∷ xs) [] = refl
 length_posted (a ∷ xs) (r ∷ rs) = ap suc (length_posted xs rs)
 
-pub posted_none : (xs : List Account) → xs ≡ posted xs []
-posted_none [] = refl
-posted_none (a ∷ xs) = refl
-
 posted_suc : (xs : List Account) (rs : List Record) (k : ℕ) → k < length xs → k < length rs → posted xs (take (suc k) rs) ≡ added (posted xs (take k rs)) k (line_at rs k)
 posted_suc [] rs k h j = absurd (omega arith)
 posted_suc (a ∷ xs) [] k h j = absurd (omega arith)

@@ -51,7 +51,7 @@ impl Accounts {
         account.sum = account.sum + sum;
     }
 
-    /// One account owes so much less.
+    /// One account owes so much less; a call of its own, since money has no negation.
     pub(crate) fn lower(&mut self, account: AccountPlace, sum: Paise)
         requires fits { FitsSigned w64 (sum_at self.old.table account.place +ℤ neg_ℤ sum.paise) }
         ensures after { self.new.table ≡ added self.old.table account.place (neg_ℤ sum.paise) }
@@ -66,6 +66,7 @@ impl Accounts {
         requires fits { (k : ℕ) → k < record_count → FitsSigned w64 (sum_at self.old.table k +ℤ line_at records.now k) }
         ensures after { self.new.table ≡ posted self.old.table records.now }
     {
+        // by place: what a zip over `iter_mut` writes is not known to a proof afterwards
         for (place, record) in records.iter().enumerate() {
             self.raise(AccountPlace { place }, record.line);
         }

@@ -11,8 +11,9 @@ pub struct Book {
     /// How many of them are enrolled.
     pub(crate) count: usize,
     pub(crate) grid: [Option<GridEntry>; BLOCKS],
-    /// The day last opened, 0 before the first: its number is kept after it was closed, so it is no part of `opened`.
+    /// The day last opened, 0 before the first: every day number is above 0, so the first needs no case of its own.
     pub(crate) day: u32,
+    /// A flag beside the day: its number stays used after it was closed.
     pub(crate) opened: bool,
     pub(crate) accounts: Accounts,
     pub(crate) cash: Paise,

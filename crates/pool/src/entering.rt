@@ -1,14 +1,13 @@
 //! Enrolling, opening, entering and dropping.
 ghost use Rattle.std.specs.Prelude.{◌≡◌, ◌<◌, true, false, map, is_ok, if◌then◌else◌, Some, IfOk, MatchResult, slice_set, unsigned_abs};
 ghost use Rattle.day.specs.Members.{member_at};
-ghost use Rattle.member_day.specs.Entries.{blocks};
 ghost use Rattle.pool.specs.Calls.{amount_by, dropping, ended, enrolled_as, enrolling, entering_amount, entering_grid, kind_of_member, entering_reading, opened_on, opening, read_by, with_grid};
 ghost use Rattle.pool.specs.Rules.{enrolled, metered_member, regional_member};
 ghost use Rattle.pool.specs.Tables.{cleared, fresh, with_reading, without_entries};
 
 use crate::accounts::Accounts;
 use crate::book::Book;
-use crate::entries::{block_place, grid_row, place_below, reading_row};
+use crate::entries::{BlockPlace, block_named, grid_row, place_below, reading_row};
 use crate::limits::MOST_DAY;
 use crate::pool::Pool;
 use crate::refusal::Refusal;
@@ -29,16 +28,14 @@ fn without_entries(kind: MemberKind) -> Member
 }
 
 /// A later entry for a block replaces the earlier one.
-fn put<X: Copy>(table: &mut [Option<X>; BLOCKS], block: usize, row: X)
-    requires within { block < blocks }
-    ensures after { table.new ≡ slice_set table.old block (Some row) }
+fn put<X: Copy>(table: &mut [Option<X>; BLOCKS], block: BlockPlace, row: X)
+    ensures after { table.new ≡ slice_set table.old block.place (Some row) }
 {
-    table[block] = Some(row);
+    table[block.place] = Some(row);
 }
 
-fn put_reading(member: &mut Member, block: usize, row: ReadingEntry)
-    requires within { block < blocks }
-    ensures after { member.new ≡ with_reading block row member.old }
+fn put_reading(member: &mut Member, block: BlockPlace, row: ReadingEntry)
+    ensures after { member.new ≡ with_reading block.place row member.old }
 {
     put(&mut member.readings, block, row);
 }
@@ -82,6 +79,7 @@ impl<T, R> Pool<T, R> {
         }
     }
 
+    /// Refused while no day is open.
     pub(crate) fn must_be_open(&self) -> Result<(), Refusal>
         ensures answer { MatchResult result (λ _. self.now.book.opened ≡ true) (λ e. (self.now.book.opened ≡ false) × (e ≡ Refusal.WrongMoment)) }
     {
@@ -92,6 +90,7 @@ impl<T, R> Pool<T, R> {
         }
     }
 
+    /// Refused while a day is open.
     fn must_be_closed(&self) -> Result<(), Refusal>
         ensures answer { MatchResult result (λ _. self.now.book.opened ≡ false) (λ e. (self.now.book.opened ≡ true) × (e ≡ Refusal.WrongMoment)) }
     {
@@ -146,6 +145,7 @@ impl<T, R> Pool<T, R> {
         if MEMBERS <= place {
             return Err(Refusal::PoolFull);
         }
+        // by its place: what is written through `get_mut` is not known to a proof afterwards
         self.book.members[place].kind = kind;
         self.book.count = place + 1;
         Ok(place)
@@ -178,7 +178,7 @@ impl<T, R> Pool<T, R> {
         ensures rule { self.new.rule ≡ self.old.rule }
     {
         self.must_be_open()?;
-        let block = block_place(block)?;
+        let block = block_named(block)?;
         let row = grid_row(hz100, price)?;
         put(&mut self.book.grid, block, row);
         Ok(())
@@ -200,7 +200,7 @@ impl<T, R> Pool<T, R> {
     {
         self.must_be_open()?;
         let (place, kind) = self.metered_member(member)?;
-        let block = block_place(block)?;
+        let block = block_named(block)?;
         let row = reading_row(kind, scheduled, metered, available)?;
         put_reading(&mut self.book.members[place], block, row);
         Ok(())

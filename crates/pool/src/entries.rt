@@ -19,12 +19,19 @@ pub(crate) fn place_below(number: i64, count: usize) -> Option<usize>
     usize::try_from(number).ok().filter(|place| *place < count)
 }
 
-/// The place of a block of this number.
-pub(crate) fn block_place(number: i64) -> Result<usize, Refusal>
-    ensures answer { MatchResult result (λ k. (within 0 last_block number ≡ true) × (k ≡ unsigned_abs number)) (λ e. (within 0 last_block number ≡ false) × (e ≡ Refusal.OutsideLimit)) }
-    ensures below { IfOk result (λ k. k < blocks) }
+/// The place of a block of the day.
+#[derive(Clone, Copy)]
+pub(crate) struct BlockPlace {
+    pub(crate) place: usize,
+    ghost within: { place < blocks },
+}
+
+/// The place of the block of this number.
+pub(crate) fn block_named(number: i64) -> Result<BlockPlace, Refusal>
+    ensures answer { MatchResult result (λ k. (within 0 last_block number ≡ true) × (k.place ≡ unsigned_abs number)) (λ e. (within 0 last_block number ≡ false) × (e ≡ Refusal.OutsideLimit)) }
 {
-    place_below(number, BLOCKS).ok_or(Refusal::OutsideLimit)
+    let place = place_below(number, BLOCKS).ok_or(Refusal::OutsideLimit)?;
+    Ok(BlockPlace { place })
 }
 
 /// The row of a reading. The test of a reading proves that each number fits.

@@ -4,12 +4,8 @@ use Rattle.journal.specs.Law.{Stands}
 use Rattle.journal.proofs.Keeping.{none_stands}
 use Rattle.journal.proofs.runs.begin.Goals as goal
 
-pub returns : goal.returns
-returns g c =
+pub returns-clause-stands : goal.returns-clause-stands
+returns-clause-stands g c =
     let m = g.T.Tariff.meaning c.args.tariff in
     let p = g.R.PartingRule.shares c.args.rule in
-    record {
-      stands = subst (Stands m p []) (sym c.new.ensures.book) (none_stands m p);
-      tariff = c.new.ensures.tariff;
-      rule = c.new.ensures.rule;
-    }
+    subst (Stands m p []) (sym c.new.ensures.book) (none_stands m p)

@@ -1,5 +1,5 @@
 -- One call more is noted, and the pool stands after it; where a pool stands after a journal, the law holds of that journal.
-use Rattle.std.proofs.Common.{◌≡◌, ◌-◌, ◌<◌, ◌++◌, List, reverse, length, take, drop, pos, sym, refl, ap, ◌∙◌, subst, arith}
+use Rattle.std.proofs.Common.{◌≡◌, ◌-◌, ◌<◌, ◌++◌, List, reverse, length, take, drop, pos, sym, ap, ◌∙◌, subst, arith}
 use native.Mathlib.Nat.{sub-zero}
 use Rattle.std.proofs.lemmas.List.{length-take-le, take_all}
 use Rattle.journal.specs.Law.{Stands}
@@ -8,9 +8,6 @@ use Rattle.journal.specs.declared.entry.Entry.{Entry}
 use Rattle.journal.proofs.Days.{lawful}
 use Rattle.journal.proofs.Turning.{calls_of, turn_calls, turn_journal, turn_beyond, turn_stands}
 use Rattle.journal.proofs.runs.resume.Goals as goal
-
-pub loop-place-init : goal.loop-place-init
-loop-place-init g c = record { tariff = refl; rule = refl; calls = refl; beyond = refl; stands = λ J st. st }
 
 pub loop-place-preserved : goal.loop-place-preserved
 loop-place-preserved g c =

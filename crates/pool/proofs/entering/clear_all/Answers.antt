@@ -1,7 +1,7 @@
 -- One member more is cleared, and at the end all are.
-use Rattle.std.proofs.Common.{◌≡◌, ◌++◌, map, length, get_or, drop, set, ap, ◌∙◌, arith, rules}
+use Rattle.std.proofs.Common.{◌≡◌, length, get_or, set, ap, ◌∙◌, arith, rules}
 use Rattle.std.proofs.lemmas.List.Edits.{map_over_more}
-use Rattle.std.proofs.lemmas.List.{take_all, drop_all, append-nil, get_or_default, length-set}
+use Rattle.std.proofs.lemmas.List.{get_or_default, length-set}
 use Rattle.day.specs.Members.{nobody}
 use Rattle.pool.specs.Tables.{cleared}
 use Rattle.pool.proofs.entering.clear_all.Goals as goal
@@ -16,10 +16,3 @@ loop-member-preserved c =
           ∙ map_over_more cleared c.args.members.now ys i (get_or ys i nobody) (omega arith) c.loop-member.invariant.0 (get_or_default ys i nobody (get_or ys i nobody) (omega arith)),
       length-set ys i c.without_entries.result ∙ l,
     )
-
-pub returns : goal.returns
-returns c =
-    let i = c.loop-member.member-index in
-    let xs = c.args.members.now in
-    let n : length c.args.members.now ≡ 16 = search rules in
-    record { after = c.loop-member.invariant.0 ∙ (ap (λ l. map cleared l ++ drop i xs) (take_all i xs (omega arith)) ∙ (ap (λ l. map cleared xs ++ l) (drop_all i xs (omega arith)) ∙ append-nil (map cleared xs))) }

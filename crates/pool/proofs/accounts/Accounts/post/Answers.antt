@@ -1,13 +1,9 @@
 -- One line more stands on its account.
 use Rattle.std.proofs.Common.{◌≡◌, ◌<◌, ◌+ℤ◌, sym, ap, ◌∙◌, length, subst, arith, rules, w64, SFits}
-use Rattle.std.proofs.lemmas.List.{take_all}
 use Rattle.day.specs.Records.{record_count}
-use Rattle.pool.specs.Standing.{sum_at, added, posted, line_at}
-use Rattle.pool.proofs.Totals.{posted_more, posted_none, not_yet}
+use Rattle.pool.specs.Standing.{sum_at, added, line_at}
+use Rattle.pool.proofs.Totals.{posted_more, not_yet}
 use Rattle.pool.proofs.accounts.Accounts.post.Goals as goal
-
-pub loop-place-init : goal.loop-place-init
-loop-place-init c = posted_none c.args.self.now.table
 
 pub raise-requires : goal.raise-requires
 raise-requires c =
@@ -23,6 +19,3 @@ loop-place-preserved c =
     let rs = c.args.records.now in
     let n : length c.args.self.now.table ≡ 17 = search rules in
     c.raise.ensures.after ∙ (ap (λ l. added l k (line_at rs k)) c.loop-place.invariant ∙ sym (posted_more c.args.self.now.table rs k (omega arith) (omega (arith, c.requires.as_many))))
-
-pub returns : goal.returns
-returns c = record { after = c.loop-place.invariant ∙ ap (posted c.args.self.now.table) (take_all c.loop-place.place c.args.records.now (omega arith)) }
