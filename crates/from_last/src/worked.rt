@@ -10,6 +10,7 @@ pub fn payables_from_last() -> [u64; 4]
     ensures answer { result ≡ 3070 ∷ 2046 ∷ 3769 ∷ 1615 ∷ [] }
     ensures law { PayablesFromLast }
 {
+    // As `shares` of parting, which is not published since it has a `requires`.
     let mut shares = [0; 4];
     FromLast.part(10_500, &[2_850, 1_900, 3_500, 1_500], &mut shares);
     shares

@@ -17,6 +17,7 @@ fn standing(rest: u64, place: usize) -> u64
     requires { (rest < most_total) × (place < most_weights) }
     ensures answer { result ≡ rest * most_weights + (most_weights - place) }
 {
+    // By `as` here and below, since `u64` has no `From<usize>`.
     rest * MOST_WEIGHTS as u64 + (MOST_WEIGHTS - place) as u64
 }
 

@@ -37,6 +37,7 @@ pub fn seven_members() -> ([Paise; 7], Result<Paise, Unshared>)
     ensures reserve { result.1 ≡ Ok (money (pos 0)) }
 {
     let charges = seven_charges();
+    // As in `one_paisa`: a function under both would have to repeat all clauses of `share_out`.
     let mut lines = [Paise::NOTHING; 7];
     let reserve = share_out(&LargestRemainder, &charges, &mut lines);
     (lines, reserve)
