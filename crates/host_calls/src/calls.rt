@@ -23,7 +23,7 @@ fn lent(room: i64) -> usize
     usize::try_from(room).unwrap_or(0)
 }
 
-/// The call of these numbers, none where no call has the code. The C interface gives a number for a call.
+/// The call of these numbers, none where no call has the code: the C interface gives calls as plain numbers.
 fn call_of(code: i64, a: i64, b: i64, c: i64, d: i64, e: i64) -> Option<Call>
     ensures answer { result ≡ coded_call code a b c d e }
 {
