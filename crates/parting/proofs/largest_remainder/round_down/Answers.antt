@@ -17,8 +17,8 @@ whole_paise-floor-requires c = record {
   fits = product_fits _ _ c.requires.asked _ (weight_le _ _ c.requires.asked _ c.loop-place-test.true);
 }
 
-pub overflow_mul-weight : goal.overflow_mul-weight
-overflow_mul-weight c = omega (arith, product_fits _ _ c.requires.asked _ (weight_le _ _ c.requires.asked _ c.loop-place-test.true))
+pub overflow_mul-rest : goal.overflow_mul-rest
+overflow_mul-rest c = omega (arith, product_fits _ _ c.requires.asked _ (weight_le _ _ c.requires.asked _ c.loop-place-test.true))
 
 pub overflow_sub-left : goal.overflow_sub-left
 overflow_sub-left c =
