@@ -1,5 +1,6 @@
 -- Lemmas on sheets.
 pub mod Indexes
+pub mod Left
 pub mod Listing
 pub mod Reading
 pub mod Walks

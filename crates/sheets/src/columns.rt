@@ -1,4 +1,5 @@
 //! Which column of the table each column of a sheet is.
+ghost use Rattle.sheet_kinds.specs.declared.kind.TheConstants.{MOST_NAMES};
 ghost use Rattle.std.specs.Prelude.{ℕ, ◌<◌, ◌≤◌, slice_index};
 
 use sheet_kinds::MOST_NAMES;
@@ -9,7 +10,7 @@ use sheet_kinds::MOST_NAMES;
 pub struct Columns {
     pub(crate) at: [usize; MOST_NAMES],
     pub(crate) len: usize,
-    ghost few: { len ≤ 8 },
+    ghost few: { len ≤ MOST_NAMES },
     ghost inside: { (i : ℕ) → i < len → slice_index at i < len },
 }
 

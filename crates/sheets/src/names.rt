@@ -1,5 +1,6 @@
 //! Which columns a line of names gives.
-ghost use Rattle.std.specs.Prelude.{◌≡◌, ℕ, ◌≤◌, map, length, drop, position};
+ghost use Rattle.std.specs.Prelude.{◌≡◌, ℕ, ◌≤◌, map, length, drop, position, ◌==◌};
+ghost use Rattle.std.specs.List.{list_any};
 ghost use Rattle.cells.specs.Cells.{lines, texts};
 ghost use Rattle.cells.specs.Left.{cells_left, others};
 ghost use Rattle.sheets.specs.Columns.{columns_of};
@@ -18,6 +19,13 @@ pub(crate) fn index_of(names: &[&[u8]], name: &[u8]) -> Option<usize>
     names.iter().position(|n| *n == name)
 }
 
+/// Is this column among those that are taken?
+pub(crate) fn is_taken(taken: &[usize], k: usize) -> bool
+    ensures answer { result ≡ list_any (λ y. y == k) taken.now }
+{
+    taken.contains(&k)
+}
+
 /// The columns of a line of names, where they are those of the kind, once each.
 pub(crate) fn columns_of<K: SheetKind>(kind: &K, mut cells: LineCells) -> Option<Columns>
     ensures answer { option_map column_list result ≡ columns_of K.SheetKind.table.names (texts (cells_left cells.entry)) }
@@ -29,7 +37,7 @@ pub(crate) fn columns_of<K: SheetKind>(kind: &K, mut cells: LineCells) -> Option
     for i in 0..len {
         let cell = cells.next_cell()?;
         let k = index_of(names, cell.bytes())?;
-        if at[..i].contains(&k) {
+        if is_taken(&at[..i], k) {
             return None;
         }
         at[i] = k;

@@ -3,6 +3,7 @@ ghost use Rattle.std.specs.Prelude.{◌≡◌, ℕ, ◌<◌};
 ghost use Rattle.cells.specs.Shown.{shown};
 ghost use Rattle.sheets.specs.Rows.{value_of};
 ghost use Rattle.sheets.specs.Values.{put_value};
+ghost use Rattle.sheet_kinds.specs.declared.kind.TheConstants.{MOST_NAMES};
 
 use cells::Cell;
 use sheet_kinds::{CellCause, CellFault, MOST_NAMES, Spot};
@@ -16,7 +17,7 @@ pub(crate) struct RowValues {
 impl RowValues {
     /// Puts the value of a column, or keeps its fault where it is the first.
     pub(crate) fn put(&mut self, column: usize, value: Result<u64, CellFault>)
-        requires { column < 8 }
+        requires { column < MOST_NAMES }
         ensures after { self.new ≡ put_value self.old column value }
     {
         match value {
