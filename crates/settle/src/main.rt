@@ -1,7 +1,7 @@
 //! Tests the three sheets of the folder where it is run, and prints the first fault, or how many rows each has.
 #![tactic(auto)]
 
-use sheet_files::{Counts, Sheets, Stop, print_stop, test_sheets};
+use sheet_files::{Counts, Sheets, print_stop, test_sheets};
 use std::io;
 
 fn main(rt: HostRuntime) -> anyhow::Result<()> {
@@ -11,7 +11,7 @@ fn main(rt: HostRuntime) -> anyhow::Result<()> {
 fn run(rt: &HostRuntime) -> anyhow::Result<()> {
     match test_sheets(&Sheets::read(rt)?) {
         Ok(counts) => print_counts(rt, counts)?,
-        Err(fault) => print_stop(rt, Stop::from(fault))?,
+        Err(fault) => print_stop(rt, &fault)?,
     }
     Ok(())
 }

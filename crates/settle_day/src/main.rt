@@ -4,6 +4,7 @@
 
 mod duties;
 mod settled;
+mod stop;
 
 use day::Record;
 use pool::RESERVE;
@@ -18,7 +19,7 @@ fn main(rt: HostRuntime) -> anyhow::Result<()> {
 fn run(rt: &HostRuntime) -> anyhow::Result<()> {
     match settle(&Sheets::read(rt)?) {
         Ok(settled) => print_lines(rt, &settled)?,
-        Err(stop) => print_stop(rt, stop)?,
+        Err(stop) => print_stop(rt, &stop)?,
     }
     Ok(())
 }

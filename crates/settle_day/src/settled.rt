@@ -1,29 +1,18 @@
 //! The day that the three sheets stand for, settled in memory.
 use crate::duties::{HousePool, amount, enrol, grid_row, reading};
+use crate::stop::Stop;
 use day::{RECORDS, Record};
 use house::house;
 use parting::LargestRemainder;
 use pool::{Pool, Refusal};
-use sheet_files::{Sheets, Stop, test_sheets};
-use sheet_kinds::{Grid, Members, Readings, SheetKind, Spot};
+use sheet_files::{Sheets, test_sheets};
+use sheet_kinds::{Grid, Members, Readings, SheetKind};
 use sheets::NamedSheet;
 
 /// More lines than a sheet can have.
 const LINES: usize = 65_537;
 /// What stands for a sheet where opening or closing is refused.
 const CLOSING: u8 = 4;
-
-/// A refusal of the call for this line of a sheet.
-fn refused(sheet: u8, line: usize, refusal: Refusal) -> Stop {
-    Stop {
-        spot: Spot {
-            sheet,
-            line,
-            cell: 0,
-        },
-        number: refusal.number(),
-    }
-}
 
 /// Gives each row of a sheet, with its place among them, its call, up to the first refusal, and answers how many there are.
 fn pass<K: SheetKind, F: Fn(&mut HousePool, i64, K::Row) -> Result<(), Refusal>>(
@@ -40,7 +29,11 @@ fn pass<K: SheetKind, F: Fn(&mut HousePool, i64, K::Row) -> Result<(), Refusal>>
         let Some(row) = sheet.next_row(kind)? else {
             return Ok(place);
         };
-        call(pool, place as i64, row).map_err(|refusal| refused(kind.sheet(), place + 2, refusal))?;
+        call(pool, place as i64, row).map_err(|refusal| Stop::Refused {
+            sheet: kind.sheet(),
+            line: place + 2,
+            refusal,
+        })?;
     }
     Ok(LINES)
 }
@@ -55,7 +48,11 @@ pub struct Settled {
 /// Settles the day of three sheets, which are tested whole before the first call.
 pub fn settle(sheets: &Sheets) -> Result<Settled, Stop> {
     test_sheets(sheets)?;
-    let no_line = |refusal| refused(CLOSING, 0, refusal);
+    let no_line = |refusal| Stop::Refused {
+        sheet: CLOSING,
+        line: 0,
+        refusal,
+    };
     let mut pool = Pool::new(house(), LargestRemainder);
     let members = pass(&Members, &sheets.members, &mut pool, |pool, _, row| {
         enrol(pool, row)

@@ -1,3 +1,2 @@
--- The three sheets of a folder, and what ends the work on them. Assumes nothing.
-pub mod Stops
+-- The three sheets of a folder. Assumes nothing.
 pub mod Tested

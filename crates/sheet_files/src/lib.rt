@@ -1,4 +1,4 @@
-//! The three sheets of a folder: their bytes, the test of them all, and what ends the work on them.
+//! The three sheets of a folder: their bytes, the test of them all, and how what ends the work on them is printed.
 #![tactic(auto)]
 
 mod files;
@@ -6,5 +6,5 @@ mod stop;
 mod tested;
 
 pub use files::Sheets;
-pub use stop::{Stop, print_stop};
+pub use stop::print_stop;
 pub use tested::{Counts, test_sheets};

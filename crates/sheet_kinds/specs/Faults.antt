@@ -1,5 +1,5 @@
 -- The number of each fault and where it is. Assumes nothing.
-use Rattle.std.specs.Prelude.{ℕ}
+use Rattle.std.specs.Prelude.{ℕ, List, ◌∷◌, ◌++◌, decimal}
 use Rattle.sheet_kinds.specs.declared.fault.CellCause.TheVariants.{Empty, NotNumber}
 use Rattle.sheet_kinds.specs.declared.fault.CellCause.{CellCause}
 use Rattle.sheet_kinds.specs.declared.fault.RowFault.TheVariants.{Count, Cell}
@@ -32,3 +32,8 @@ fault_spot (Long sheet) = record { sheet = sheet; line = 0; cell = 0 }
 fault_spot (Unended sheet) = record { sheet = sheet; line = 0; cell = 0 }
 fault_spot (Names sheet) = record { sheet = sheet; line = 1; cell = 0 }
 fault_spot (Row f) = row_spot f
+
+-- how a fault is printed: the sheet, the line, the cell and the number, with a comma (44) between each two
+abbrev pub fault_line : SheetFault → List ℕ
+fault_line f =
+    decimal (fault_spot f).sheet ++ 44 ∷ (decimal (fault_spot f).line ++ 44 ∷ (decimal (fault_spot f).cell ++ 44 ∷ decimal (fault_number f)))

@@ -1,8 +1,9 @@
 //! The number of each fault, 21 to 26, and where it is.
-ghost use Rattle.sheet_kinds.specs.Faults.{cause_number, row_number, fault_number, row_spot, fault_spot};
-ghost use Rattle.std.specs.Prelude.{◌≡◌};
+ghost use Rattle.sheet_kinds.specs.Faults.{cause_number, row_number, fault_number, row_spot, fault_spot, fault_line};
+ghost use Rattle.std.specs.Prelude.{◌≡◌, Some};
 
 use crate::fault::{CellCause, RowFault, SheetFault, Spot};
+use std::fmt;
 
 impl Spot {
     /// The place of a fault of a whole line.
@@ -72,5 +73,15 @@ impl SheetFault {
             SheetFault::Names(sheet) => Spot::of_line(sheet, 1),
             SheetFault::Row(fault) => fault.spot(),
         }
+    }
+}
+
+impl fmt::Display for SheetFault {
+    ghost output = { λ fault. Some (fault_line fault) };
+
+    fn fmt<W: fmt::Write>(&self, f: &mut fmt::Formatter<W>) -> fmt::Result {
+        let Spot { sheet, line, cell } = self.spot();
+        let number = self.number();
+        write!(f, "{sheet},{line},{cell},{number}")
     }
 }

@@ -1,0 +1,2 @@
+-- What ends the work. Assumes nothing.
+pub mod Stops
