@@ -13,6 +13,7 @@ fn number(given: i64) -> Option<u32> {
     u32::try_from(given).ok()
 }
 
+// Functions and no `TryFrom`, since neither the row nor the entry is a type of this crate.
 fn grid_entry(row: [i64; 2]) -> Option<GridEntry> {
     Some(GridEntry {
         hz100: number(row[0])?,

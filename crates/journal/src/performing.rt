@@ -22,9 +22,8 @@ fn done(res: Result<(), Refusal>) -> Answer
 fn close<T: Tariff, R: PartingRule>(
     pool: &mut Pool<T, R>,
     room: usize,
-    records: &mut [Record],
+    records: &mut [Record; RECORDS],
 ) -> Answer
-    requires seventeen { length records.old ≡ record_count }
     ensures answer { result ≡ done (closing_of (T.Tariff.meaning pool.old.tariff) pool.old.book room) }
     ensures after { pool.new.book ≡ (outcome (T.Tariff.meaning pool.old.tariff) (R.PartingRule.shares pool.old.rule) pool.old.book (Call.Close room)).book }
     ensures records { records.new ≡ (outcome (T.Tariff.meaning pool.old.tariff) (R.PartingRule.shares pool.old.rule) pool.old.book (Call.Close room)).records records.old }
@@ -39,9 +38,8 @@ fn close<T: Tariff, R: PartingRule>(
 fn answer_to<T: Tariff, R: PartingRule>(
     pool: &mut Pool<T, R>,
     call: Call,
-    records: &mut [Record],
+    records: &mut [Record; RECORDS],
 ) -> Answer
-    requires seventeen { length records.old ≡ record_count }
     ensures answer { result ≡ (outcome (T.Tariff.meaning pool.old.tariff) (R.PartingRule.shares pool.old.rule) pool.old.book call).answer }
     ensures after { pool.new.book ≡ (outcome (T.Tariff.meaning pool.old.tariff) (R.PartingRule.shares pool.old.rule) pool.old.book call).book }
     ensures records { records.new ≡ (outcome (T.Tariff.meaning pool.old.tariff) (R.PartingRule.shares pool.old.rule) pool.old.book call).records records.old }

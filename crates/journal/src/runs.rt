@@ -42,7 +42,7 @@ pub fn resume<T: Tariff, R: PartingRule>(
 {
     let count = calls.len().min(journal.len());
     let taken = &calls[0..count];
-    // by place: what a zip over `iter_mut` writes is not known to a proof afterwards
+    // By place, since a proof knows nothing of what is written through a `zip` with `iter_mut`.
     for (place, call) in taken.iter().enumerate() {
         journal[place] = perform(pool, *call);
     }

@@ -19,6 +19,7 @@ pub trait PartingRule {
     ghost shares: { Self → ℕ → List ℕ → List ℕ };
 
     /// Writes the share of each weight to its place in `into`. A rule never refuses what it may be asked.
+    // No struct of the sum and the weights: each caller has them apart, and each rule takes them apart again.
     fn part(&self, amount: u64, weights: &[u64], into: &mut [u64])
         requires asked { Asked amount weights.now }
         requires room { length into.old ≡ length weights.now }

@@ -66,7 +66,7 @@ impl Accounts {
         requires fits { (k : ℕ) → k < record_count → FitsSigned w64 (sum_at self.old.table k +ℤ line_at records.now k) }
         ensures after { self.new.table ≡ posted self.old.table records.now }
     {
-        // by place: what a zip over `iter_mut` writes is not known to a proof afterwards
+        // By place, since a proof knows nothing of what is written through a `zip` with `iter_mut`.
         for (place, record) in records.iter().enumerate() {
             self.raise(AccountPlace { place }, record.line);
         }

@@ -65,6 +65,7 @@ impl Book {
     }
 }
 
+// That tariff and rule stay is a clause of each call, since the contract of a published call names all that it leaves.
 impl<T, R> Pool<T, R> {
     /// A pool with no member and no day, accounts and cash at 0.
     pub fn new(tariff: T, rule: R) -> Pool<T, R>
@@ -145,7 +146,7 @@ impl<T, R> Pool<T, R> {
         if MEMBERS <= place {
             return Err(Refusal::PoolFull);
         }
-        // by its place: what is written through `get_mut` is not known to a proof afterwards
+        // By its place, since a proof knows nothing of what is written through `get_mut`.
         self.book.members[place].kind = kind;
         self.book.count = place + 1;
         Ok(place)

@@ -33,6 +33,7 @@ impl CellCause {
     }
 }
 
+// Of the faults that hold values `as` gives no number, so that a match does.
 impl RowFault {
     pub fn number(self) -> u8
         ensures answer { result ≡ row_number self }

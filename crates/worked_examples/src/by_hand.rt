@@ -11,6 +11,8 @@ use tariff::{Bands, charge_by, vector_rate, volume_limit};
 /// The price of the examples, in tenths of a paisa per kWh.
 pub const PRICE: i64 = 4_000;
 
+// Four functions that differ in what they ask, since the contract of each is another table of examples.
+
 /// The vector's rate at this frequency and a price of 4,000.
 pub fn rate_at(hz100: i64) -> Result<Rate, FactsRefusal>
     ensures answer { MatchResult result (λ x. RatesByHand hz100 x.tenths) (λ _. is_ok (facts_from (pos 1) (pos 0) (pos 0) (pos 0) hz100 (pos 4000)) ≡ false) }
