@@ -5,7 +5,7 @@ use house::{House, house};
 use member_day::{BLOCKS, GridEntry, ReadingEntry};
 use parting::LargestRemainder;
 
-/// What is answered for a day that is not closed.
+/// What is answered for a day that is not closed: the C interface answers a number.
 const NOT_CLOSED: i64 = i64::MIN;
 
 /// A row's number, none where it is below 0 or does not fit.

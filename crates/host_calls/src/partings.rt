@@ -6,6 +6,8 @@ ghost use Rattle.parting.specs.Running.{running};
 
 use parting::{LargestRemainder, Running, part_if_asked};
 
+// Two calls, since the C interface has no rule as a parameter.
+
 /// Parts by largest remainder, where that may be asked and there is a place for each share.
 #[unsafe(no_mangle)]
 pub extern "C" fn niszorgy_host_largest_remainder(

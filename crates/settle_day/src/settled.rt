@@ -11,7 +11,7 @@ use sheets::NamedSheet;
 
 /// More lines than a sheet can have.
 const LINES: usize = 65_537;
-/// What stands for a sheet where opening or closing is refused.
+/// What stands for a sheet where opening or closing is refused: a number, as sheets have.
 const CLOSING: u8 = 4;
 
 /// Gives each row of a sheet, with its place among them, its call, up to the first refusal, and answers how many there are.

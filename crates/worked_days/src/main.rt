@@ -22,6 +22,7 @@ fn run(rt: &impl Print) -> anyhow::Result<()> {
     say_reserve(rt, reserve)
 }
 
+// No `Display`, since neither `Result` nor `Paise` is a type of this crate.
 fn say_reserve(rt: &impl Print, reserve: Result<Paise, Unshared>) -> anyhow::Result<()> {
     match reserve {
         Ok(line) => println!(rt; "the reserve: came {line}, by hand 0")?,
