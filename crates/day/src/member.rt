@@ -45,7 +45,8 @@ impl MemberKind {
     }
 }
 
-/// Readings count for a metered member alone, the amount for a regional one alone.
+/// Readings count for a metered member alone, the amount for a regional one alone. Both stand for either kind, since the law
+/// over runs says of each place what was entered there, whatever its kind.
 #[derive(Clone, Copy)]
 pub struct Member {
     pub kind: MemberKind,

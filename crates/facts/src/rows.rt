@@ -6,7 +6,7 @@ ghost use Rattle.std.specs.Prelude.{◌≡◌, false, MatchOption};
 use crate::{GridRow, Kind, Reading};
 use quantities::{Kwh, LEAST_HZ100, MOST_HZ100, Rate, limited};
 
-// Plain numbers and no struct of three: a call of the pool and a row of the tables give them so, each under its name.
+// Plain numbers and no struct of three: a call of the pool gives them so, and a row of the tables has another type.
 impl Reading {
     /// The reading of these numbers of kWh, none where one of them is outside its limits.
     pub fn new(kind: Kind, scheduled: i64, metered: i64, available: i64) -> Option<Reading>

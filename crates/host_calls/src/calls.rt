@@ -97,19 +97,6 @@ fn put_records(room: &mut Room<i64>, records: &[Record])
     }
 }
 
-fn is_close(call: Call) -> bool
-    ensures answer { result ≡ closed_by (deed call).marks }
-{
-    matches!(call, Call::Close { .. })
-}
-
-/// Whether a call with this answer closed a day.
-fn closes(call: Call, answer: Answer) -> bool
-    ensures answer { result ≡ (accepted answer && closed_by (deed call).marks) }
-{
-    answer.is_ok() && is_close(call)
-}
-
 /// Performs a call, and writes its answer, and the records of the day that it closed.
 fn put_performed<T: Tariff, R: PartingRule>(pool: &mut Pool<T, R>, call: Call, room: &mut Room<i64>)
     ensures performed { Performed (T.Tariff.meaning pool.old.tariff) (R.PartingRule.shares pool.old.rule) call pool.old.book pool.new.book (so_far room.old) (so_far room.new) }
@@ -119,7 +106,7 @@ fn put_performed<T: Tariff, R: PartingRule>(pool: &mut Pool<T, R>, call: Call, r
 {
     let entry = perform(pool, call);
     put_answer(room, entry.answer);
-    if closes(entry.call, entry.answer) {
+    if entry.closes_day() {
         put_records(room, &entry.records);
     }
 }

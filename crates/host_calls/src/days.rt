@@ -15,17 +15,19 @@ fn number(given: i64) -> Option<u32> {
 
 // Functions and no `TryFrom`, since neither the row nor the entry is a type of this crate.
 fn grid_entry(row: [i64; 2]) -> Option<GridEntry> {
+    let [hz100, price] = row;
     Some(GridEntry {
-        hz100: number(row[0])?,
-        price: number(row[1])?,
+        hz100: number(hz100)?,
+        price: number(price)?,
     })
 }
 
 fn reading_entry(row: [i64; 3]) -> Option<ReadingEntry> {
+    let [scheduled, metered, available] = row;
     Some(ReadingEntry {
-        scheduled: number(row[0])?,
-        metered: number(row[1])?,
-        available: number(row[2])?,
+        scheduled: number(scheduled)?,
+        metered: number(metered)?,
+        available: number(available)?,
     })
 }
 
@@ -78,23 +80,18 @@ fn weighed(records: &[Record]) -> i64 {
 }
 
 /// What the lines come to, none where the day cannot be closed.
-fn close_once(
-    tariff: &House,
-    grid: &[Option<GridEntry>; BLOCKS],
-    members: &[Member],
-) -> Option<i64> {
+fn close_once(tariff: &House, entries: &DayEntries) -> Option<i64> {
     let mut records = [Record::default(); RECORDS];
-    let entries = DayEntries { grid, members };
-    close_day(tariff, &LargestRemainder, &entries, &mut records).ok()?;
+    close_day(tariff, &LargestRemainder, entries, &mut records).ok()?;
     Some(weighed(&records))
 }
 
 /// Closes the day so many times, and adds up what its lines come to.
-fn close_again(grid: &[Option<GridEntry>; BLOCKS], members: &[Member], times: u32) -> Option<i64> {
+fn close_again(entries: &DayEntries, times: u32) -> Option<i64> {
     let tariff = house();
     let mut sum = 0i64;
     for _ in 0..times {
-        sum = sum.wrapping_add(close_once(&tariff, grid, members)?);
+        sum = sum.wrapping_add(close_once(&tariff, entries)?);
     }
     Some(sum)
 }
@@ -112,7 +109,9 @@ pub extern "C" fn niszorgy_host_close_days(
     readings: &[i64],
     times: u32,
 ) -> i64 {
-    let members = members_of(kinds, readings);
-    let grid = grid_of(grid);
-    close_again(&grid, &members, times).unwrap_or(NOT_CLOSED)
+    let entries = DayEntries {
+        grid: &grid_of(grid),
+        members: &members_of(kinds, readings),
+    };
+    close_again(&entries, times).unwrap_or(NOT_CLOSED)
 }

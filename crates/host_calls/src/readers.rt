@@ -117,6 +117,8 @@ fn answer<R: Numbers + Drop, K: SheetKind<Row = R>>(kind: &K, bytes: &[u8], into
     }
 }
 
+// Three calls, since the C interface has no kind of sheet as a parameter.
+
 /// The numbers of the rows of a sheet of members, as far as there is room, or its first fault.
 #[unsafe(no_mangle)]
 pub extern "C" fn niszorgy_host_members(bytes: &[u8], into: &mut [u64]) -> i64
@@ -127,7 +129,7 @@ pub extern "C" fn niszorgy_host_members(bytes: &[u8], into: &mut [u64]) -> i64
     answer(&Members, bytes, into)
 }
 
-/// The numbers of the rows of a sheet of grid, as far as there is room, or its first fault.
+/// The numbers of the rows of a sheet of the grid, as far as there is room, or its first fault.
 #[unsafe(no_mangle)]
 pub extern "C" fn niszorgy_host_grid(bytes: &[u8], into: &mut [u64]) -> i64
     ensures count { result ≡ answered (map_ok (λ vs. (put_rows three_places (room_at into.old 0) vs).at) (sheet_rows grid bytes.now)) }

@@ -81,6 +81,7 @@ impl<T, R> Pool<T, R> {
     }
 
     /// Refused while no day is open.
+    // Two tests that differ in what they want of the flag; with it as a parameter a call would not say which.
     pub(crate) fn must_be_open(&self) -> Result<(), Refusal>
         ensures answer { MatchResult result (λ _. self.now.book.opened ≡ true) (λ e. (self.now.book.opened ≡ false) × (e ≡ Refusal.WrongMoment)) }
     {
@@ -108,6 +109,8 @@ impl<T, R> Pool<T, R> {
     {
         place_below(number, self.book.count).ok_or(Refusal::NotEnrolled)
     }
+
+    // Two searches that differ in what they answer: only a member with readings has a kind to go by.
 
     /// The kind of a member that has readings, with its place.
     fn metered_member(&self, number: i64) -> Result<(usize, Kind), Refusal>

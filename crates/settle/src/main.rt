@@ -9,7 +9,8 @@ fn main(rt: HostRuntime) -> anyhow::Result<()> {
 }
 
 fn run(rt: &HostRuntime) -> anyhow::Result<()> {
-    match test_sheets(&Sheets::read(rt)?) {
+    let sheets = Sheets::read(rt)?;
+    match test_sheets(&sheets.members, &sheets.grid, &sheets.readings) {
         Ok(counts) => print_counts(rt, counts)?,
         Err(fault) => print_stop(rt, &fault)?,
     }

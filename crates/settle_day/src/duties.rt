@@ -1,14 +1,11 @@
 //! The call that is made of a row of each sheet.
 ghost use Rattle.std.specs.Prelude.{◌≡◌, ◌-◌, ◌^◌, min, pos};
 
+use day::MemberKind;
 use house::House;
 use parting::LargestRemainder;
 use pool::{Pool, Refusal};
 use sheet_kinds::{GridNumbers, MemberRow, ReadingNumbers};
-
-/// The number of the kind whose members have a regional amount. It is compared as the sheet has it: `day::MemberKind` has no
-/// case for a number that is no kind, whose call is to be refused by the pool.
-const REGIONAL: u64 = 4;
 
 pub type HousePool = Pool<House, LargestRemainder>;
 
@@ -25,7 +22,8 @@ pub fn enrol(pool: &mut HousePool, row: MemberRow) -> Result<(), Refusal> {
 
 /// The amount of a member of kind 4, and of any whose row has one.
 pub fn amount(pool: &mut HousePool, member: i64, row: MemberRow) -> Result<(), Refusal> {
-    if row.kind == REGIONAL || row.pays != 0 || row.gets != 0 {
+    let kind = MemberKind::try_from(number(row.kind));
+    if matches!(kind, Ok(MemberKind::Regional)) || row.pays != 0 || row.gets != 0 {
         let paise = number(row.pays).wrapping_sub(number(row.gets));
         pool.amount(member, paise)
     } else {

@@ -11,8 +11,6 @@ use sheets::NamedSheet;
 
 /// More lines than a sheet can have.
 const LINES: usize = 65_537;
-/// What stands for a sheet where opening or closing is refused: a number, as sheets have.
-const CLOSING: u8 = 4;
 
 /// Gives each row of a sheet, with its place among them, its call, up to the first refusal, and answers how many there are.
 fn pass<K: SheetKind, F: Fn(&mut HousePool, i64, K::Row) -> Result<(), Refusal>>(
@@ -24,7 +22,7 @@ fn pass<K: SheetKind, F: Fn(&mut HousePool, i64, K::Row) -> Result<(), Refusal>>
     requires { F.IsAlwaysCallable call }
 {
     let mut sheet = NamedSheet::open(kind, bytes)?;
-    // The place is a number of the call: `while let` would count it by hand.
+    // Not `while let`: the bound shows that the loop ends, and the place is a number of the call.
     for place in 0..LINES {
         let Some(row) = sheet.next_row(kind)? else {
             return Ok(place);
@@ -47,17 +45,12 @@ pub struct Settled {
 
 /// Settles the day of three sheets, which are tested whole before the first call.
 pub fn settle(sheets: &Sheets) -> Result<Settled, Stop> {
-    test_sheets(sheets)?;
-    let no_line = |refusal| Stop::Refused {
-        sheet: CLOSING,
-        line: 0,
-        refusal,
-    };
+    test_sheets(&sheets.members, &sheets.grid, &sheets.readings)?;
     let mut pool = Pool::new(house(), LargestRemainder);
     let members = pass(&Members, &sheets.members, &mut pool, |pool, _, row| {
         enrol(pool, row)
     })?;
-    pool.open(1).map_err(no_line)?;
+    pool.open(1).map_err(Stop::Unclosed)?;
     pass(&Members, &sheets.members, &mut pool, amount)?;
     pass(&Grid, &sheets.grid, &mut pool, |pool, _, row| {
         grid_row(pool, row)
@@ -66,6 +59,6 @@ pub fn settle(sheets: &Sheets) -> Result<Settled, Stop> {
         reading(pool, row)
     })?;
     let mut records = [Record::default(); RECORDS];
-    pool.close(&mut records).map_err(no_line)?;
+    pool.close(&mut records).map_err(Stop::Unclosed)?;
     Ok(Settled { members, records })
 }

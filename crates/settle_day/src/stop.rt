@@ -17,6 +17,8 @@ pub enum Stop {
         line: usize,
         refusal: Refusal,
     },
+    /// A refusal of opening or closing the day, which no line of a sheet asks for.
+    Unclosed(Refusal),
 }
 
 impl From<SheetFault> for Stop {
@@ -46,6 +48,7 @@ impl fmt::Display for Stop {
                 line,
                 refusal,
             } => write!(f, "{sheet},{line},0,{}", refusal.number()),
+            Stop::Unclosed(refusal) => write!(f, "4,0,0,{}", refusal.number()),
         }
     }
 }

@@ -4,7 +4,7 @@ use quantities::Paise;
 /// What a member owes for a day before it is shared out. A regional amount is fixed.
 #[derive(Clone, Copy, Default)]
 pub struct Charge {
-    // A flag and no enum, since both kinds have the sum and most readers want it alone.
+    // A flag and no enum: two cases that hold the same sum would make each reader of the sum match both.
     pub fixed: bool,
     pub sum: Paise,
 }

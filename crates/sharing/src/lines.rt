@@ -23,6 +23,8 @@ fn write_each<X: Drop, F: Fn(usize, Charge) -> X>(charges: &[Charge], into: &mut
     }
 }
 
+// Each that writes into a slice asks that it is as long as the charges: a slice that was lent has no invariant to say so.
+
 /// Writes the weights of a side.
 fn write_weights(side: Side, charges: &[Charge], into: &mut [u64])
     requires room { length into.old ≡ length charges.now }

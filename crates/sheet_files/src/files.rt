@@ -27,7 +27,7 @@ impl Sheets {
 /// The bytes of a file, none where it is missing. No more are read than tell that it is too long.
 fn sheet_bytes(rt: &HostRuntime, name: &str) -> io::Result<Vec<u8>> {
     let mut bytes = Vec::new(rt.alloc());
-    // A match and no `?`, since of all errors that a file is missing is none here.
+    // A match and no `?`: a missing file is no error here, and every other is.
     match fs::open(rt, name) {
         Ok(file) => {
             file.take(MOST_READ).read_to_end(&mut bytes)?;

@@ -2,7 +2,6 @@
 ghost use Rattle.sheet_files.specs.Tested.{tested};
 ghost use Rattle.std.specs.Prelude.{◌≡◌};
 
-use crate::files::Sheets;
 use sheet_kinds::{Grid, Members, Readings, SheetFault};
 use sheets::count_rows;
 
@@ -15,12 +14,12 @@ pub struct Counts {
 }
 
 /// How many rows the sheets have, or the first fault of the first that has one.
-pub fn test_sheets(sheets: &Sheets) -> Result<Counts, SheetFault>
-    ensures answer { result ≡ tested sheets.now.members.items sheets.now.grid.items sheets.now.readings.items }
+pub fn test_sheets(members: &[u8], grid: &[u8], readings: &[u8]) -> Result<Counts, SheetFault>
+    ensures answer { result ≡ tested members.now grid.now readings.now }
 {
     Ok(Counts {
-        members: count_rows(&Members, &sheets.members)?,
-        grid: count_rows(&Grid, &sheets.grid)?,
-        readings: count_rows(&Readings, &sheets.readings)?,
+        members: count_rows(&Members, members)?,
+        grid: count_rows(&Grid, grid)?,
+        readings: count_rows(&Readings, readings)?,
     })
 }

@@ -63,7 +63,7 @@ fn enter_day(calls: &mut Vec<Call>, day: i64) -> Result<(), AllocError> {
             calls.push(reading(day, member, block))?;
         }
     }
-    // a reading for a regional amount, and one out of the day
+    // A reading for a regional amount, and one out of the day.
     calls.push(reading(day, 3, 0))?;
     calls.push(reading(day, 0, BLOCKS))?;
     calls.push(Call::Close { room: 17 })?;

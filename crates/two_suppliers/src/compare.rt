@@ -37,11 +37,10 @@ impl fmt::Display for Tally {
 }
 
 pub fn tally_of(journal: &[Entry]) -> Tally {
-    let closed = |entry: &Entry| entry.answer.is_ok() && matches!(entry.call, Call::Close { .. });
     Tally {
         accepted: journal.iter().filter(|entry| entry.answer.is_ok()).count(),
         refused: journal.iter().filter(|entry| entry.answer.is_err()).count(),
-        closed: journal.iter().filter(|entry| closed(entry)).count(),
+        closed: journal.iter().filter(|entry| entry.closes_day()).count(),
     }
 }
 
