@@ -1,9 +1,7 @@
 //! Calls on a pool, given and answered as plain numbers.
 ghost use Rattle.host_calls.specs.Called.{Performed, answer_numbers, coded_call, lending, record_numbers};
 ghost use Rattle.host_calls.specs.Filled.{put_numbers, put_rows, SamePlace, so_far};
-ghost use Rattle.journal.specs.Deeds.{deed};
-ghost use Rattle.journal.specs.Words.{accepted, closed_by};
-ghost use Rattle.std.specs.Prelude.{◌≡◌, ◌&&◌};
+ghost use Rattle.std.specs.Prelude.{◌≡◌};
 
 use crate::room::{Room, held};
 use day::Record;

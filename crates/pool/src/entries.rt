@@ -19,7 +19,7 @@ pub(crate) fn place_below(number: i64, count: usize) -> Option<usize>
     usize::try_from(number).ok().filter(|place| *place < count)
 }
 
-/// The place of a block of the day.
+/// The place of a block of the day: a type of its own, as `AccountPlace` is, so that neither stands for the other.
 #[derive(Clone, Copy)]
 pub(crate) struct BlockPlace {
     pub(crate) place: usize,
