@@ -1,16 +1,24 @@
 -- The running rule from the last member on keeps the law. Assumes nothing.
-use Rattle.std.specs.Prelude.{◌≡◌, ℕ, zero, suc, ◌+◌, ◌-◌, ◌*◌, ◌/◌, ◌<◌, ◌≤◌, List, length, drop, sum, slice_index}
+use Rattle.std.specs.Prelude.{◌≡◌, ℕ, zero, suc, ◌+◌, ◌-◌, ◌*◌, ◌/◌, ◌<◌, ◌≤◌, List, length, drop, sum, slice_index, slice_set}
 use Rattle.std.proofs.Math.Path.{ap}
-use Rattle.std.proofs.Common.{◌∙◌, zero-mul, add-one, arith}
+use Rattle.std.proofs.Common.{◌∙◌, inl, inr, zero-mul, add-one, arith}
 use Rattle.std.proofs.Math.Nat.{mul-div_cancel_left, zero-div}
 use Rattle.std.proofs.lemmas.List.FromFn.{length-map-range_with_len, get_or-map-range_with_len}
-use Rattle.std.proofs.lemmas.List.{drop_all}
+use Rattle.std.proofs.lemmas.List.{drop_all, get_or-set_other, get_or-set_same}
 use Rattle.std.proofs.lemmas.List.Sums.{sum_by-drop_more, sum_by-take-drop}
+use Rattle.std.proofs.lemmas.Bool.{cases_eq}
 use Rattle.parting.specs.Places.{adds}
 use Rattle.parting.specs.Rule.{Asked, Parted, apart}
 use Rattle.parting.specs.Adding.{adds_by_place}
 use Rattle.parting.specs.Steps.{rounds_up, step_near}
 use Rattle.from_last.specs.FromLast.{from_last, share_from, total_from}
+
+-- one place more of a list that is written from its end
+pub written_back : (f : ℕ → ℕ) (xs : List ℕ) (k v n : ℕ) → k < length xs → ((j : ℕ) → k + 1 ≤ j → j < n → slice_index xs j ≡ f j) → v ≡ f k → (j : ℕ) → k ≤ j → j < n → slice_index (slice_set xs k v) j ≡ f j
+written_back f xs k v n l after is j low high = elim (cases_eq j k) [
+  | inl e ↦ rw e (get_or-set_same xs k v 0 l ∙ is)
+  | inr ne ↦ get_or-set_other xs k j v 0 ne ∙ after j (omega arith) high
+]
 
 -- steps of what never rises add up to what it loses
 telescope_down : (f : ℕ → ℕ) (n : ℕ) → ((k : ℕ) → k < n → f (k + 1) ≤ f k) → adds (λ k. f k - f (k + 1)) n + f n ≡ f 0

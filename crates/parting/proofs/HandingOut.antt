@@ -1,12 +1,13 @@
 -- What the code of the largest remainder rule computes step by step. Assumes nothing.
-use Rattle.std.proofs.Common.{◌≡◌, ℕ, ◌+◌, ◌-◌, ◌*◌, ◌/◌, ◌%◌, ◌<◌, ◌≤◌, false, cond, count_by, ltb, List, map, length, get_or, sum, ap, ◌∙◌, mod-lt, arith}
+use Rattle.std.proofs.Common.{◌≡◌, ℕ, ◌+◌, ◌*◌, ◌/◌, ◌%◌, ◌<◌, ◌≤◌, false, cond, count_by, ltb, List, map, length, get_or, sum, ap, ◌∙◌, arith}
 use Rattle.std.proofs.lemmas.List.FromFn.{length-map-range_with_len, get_or-map-range_with_len, fill_by_all}
 use Rattle.std.specs.List.{range_with_len}
 use Rattle.std.proofs.lemmas.Bool.{lt-ltb, le-ltb}
 use Rattle.std.proofs.lemmas.Bool.Decides.{nat_tests}
-use Rattle.parting.specs.LargestRemainder.{floor_at, largest_remainder, largest_share, left_over, precedes, rank_at, rest_at, standing_at}
+use Rattle.parting.specs.LargestRemainder.{floor_at, is_higher, largest_remainder, largest_share, left_over, precedes, rank_at, rest_at, standing_at, standing_by, unstood}
 use Rattle.parting.specs.Places.{adds, by_place, tally}
-use Rattle.parting.specs.Rule.{Asked, most_amount, most_total, most_weights}
+use Rattle.parting.specs.Rule.{Asked, most_amount, most_weights}
+use Rattle.parting.specs.declared.largest_remainder.Standing.{Standing}
 use Rattle.parting.specs.Adding.{adds_less, adds_list, at_le_adds, tally_past, tally_same}
 use Rattle.parting.specs.LargestLaw.{floors_le}
 use Rattle.parting.proofs.Writing.{placed_at, placed_length}
@@ -22,26 +23,22 @@ module _ (amount : ℕ) (ws : List ℕ) where
 
 -- ---- standing
 module _ (amount : ℕ) (ws : List ℕ) where
-  -- a remainder is below the total
-  pub rest_fits : Asked amount ws → (k t : ℕ) → t ≡ sum ws → get_or ws k 0 * amount % t < most_total
-  rest_fits asked k t e = rw e (omega (arith, mod-lt (get_or ws k 0 * amount) asked.weighs, asked.total_most))
-
-  pub standing_is : (k t : ℕ) → t ≡ sum ws → k < length ws → get_or ws k 0 * amount % t * most_weights + (most_weights - k) ≡ standing_at amount ws k
+  pub standing_is : (k t : ℕ) → t ≡ sum ws → k < length ws → standing_by (get_or ws k 0 * amount % t) k ≡ standing_at amount ws k
   unfolding standing_at rest_at
   standing_is k t e h = rw (e, lt-ltb k (length ws) h)
 
-  pub standing_none : (k : ℕ) → length ws ≤ k → standing_at amount ws k ≡ 0
+  pub standing_none : (k : ℕ) → length ws ≤ k → standing_at amount ws k ≡ unstood
   unfolding standing_at
   standing_none k h = rw (le-ltb k (length ws) h)
 
   -- who stands higher comes before
-  higher : (j k : ℕ) → length ws ≤ most_weights → j < length ws → k < length ws → ltb (standing_at amount ws k) (standing_at amount ws j) ≡ precedes (rest_at amount ws) k j
+  higher : (j k : ℕ) → length ws ≤ most_weights → j < length ws → k < length ws → is_higher (standing_at amount ws k) (standing_at amount ws j) ≡ precedes (rest_at amount ws) k j
   unfolding standing_at
   higher j k few lj lk = rw (lt-ltb j (length ws) lj, lt-ltb k (length ws) lk) (grind (arith, nat_tests))
 
   -- and nobody stands lower than where there is no member
-  none_higher : (j k : ℕ) → length ws ≤ j → ltb (standing_at amount ws k) (standing_at amount ws j) ≡ false
-  none_higher j k h = rw (standing_none j h) (le-ltb (standing_at amount ws k) 0 (omega arith))
+  none_higher : (j k : ℕ) → length ws ≤ j → is_higher (standing_at amount ws k) (standing_at amount ws j) ≡ false
+  none_higher j k h = rw (standing_none j h) (grind (arith, nat_tests))
 
 -- ---- handing out
 module _ (amount : ℕ) (ws floors : List ℕ) (floored : floors ≡ by_place ws (floor_at amount ws)) where
@@ -50,23 +47,23 @@ module _ (amount : ℕ) (ws floors : List ℕ) (floored : floors ≡ by_place ws
       let l : k < length ws = omega (arith, placed_length ws _ floors floored) in
       omega (arith, placed_at ws _ floors floored k l, at_le_adds (floor_at amount ws) (length ws) k l, floors_le amount ws asked, asked.amount_most)
 
-  module _ (stands : List ℕ) (few : length ws ≤ most_weights) (all : stands ≡ map (standing_at amount ws) (range_with_len 0 most_weights)) where
+  module _ (stands : List Standing) (few : length ws ≤ most_weights) (all : stands ≡ map (standing_at amount ws) (range_with_len 0 most_weights)) where
     long : length stands ≡ most_weights
     long = ap length all ∙ length-map-range_with_len (standing_at amount ws) 0 most_weights
 
-    stood : (k : ℕ) → k < most_weights → get_or stands k 0 ≡ standing_at amount ws k
-    stood k h = ap (λ zs. get_or zs k 0) all ∙ get_or-map-range_with_len (standing_at amount ws) 0 most_weights k k 0 h (omega arith)
+    stood : (k : ℕ) → k < most_weights → get_or stands k unstood ≡ standing_at amount ws k
+    stood k h = ap (λ zs. get_or zs k unstood) all ∙ get_or-map-range_with_len (standing_at amount ws) 0 most_weights k k unstood h (omega arith)
 
-    rank_is : (k : ℕ) → k < length ws → count_by (λ other. ltb (get_or stands k 0) other) stands ≡ rank_at amount ws k
+    rank_is : (k : ℕ) → k < length ws → count_by (λ other. is_higher (get_or stands k unstood) other) stands ≡ rank_at amount ws k
     unfolding rank_at
     rank_is k h =
-        adds_list (λ other. cond (ltb (get_or stands k 0) other) 1 0) stands
-        ∙ ap (tally (λ j. ltb (get_or stands k 0) (get_or stands j 0))) long
-        ∙ tally_same (λ j. ltb (get_or stands k 0) (get_or stands j 0)) (λ j. ltb (standing_at amount ws k) (standing_at amount ws j)) most_weights (λ j l. rw (stood j l, stood k (omega arith)))
-        ∙ tally_past (λ j. ltb (standing_at amount ws k) (standing_at amount ws j)) (length ws) most_weights few (λ j low high. none_higher amount ws j k low)
-        ∙ tally_same (λ j. ltb (standing_at amount ws k) (standing_at amount ws j)) (precedes (rest_at amount ws) k) (length ws) (λ j l. higher amount ws j k few l h)
+        adds_list (λ other. cond (is_higher (get_or stands k unstood) other) 1 0) unstood stands
+        ∙ ap (tally (λ j. is_higher (get_or stands k unstood) (get_or stands j unstood))) long
+        ∙ tally_same (λ j. is_higher (get_or stands k unstood) (get_or stands j unstood)) (λ j. is_higher (standing_at amount ws k) (standing_at amount ws j)) most_weights (λ j l. rw (stood j l, stood k (omega arith)))
+        ∙ tally_past (λ j. is_higher (standing_at amount ws k) (standing_at amount ws j)) (length ws) most_weights few (λ j low high. none_higher amount ws j k low)
+        ∙ tally_same (λ j. is_higher (standing_at amount ws k) (standing_at amount ws j)) (precedes (rest_at amount ws) k) (length ws) (λ j l. higher amount ws j k few l h)
 
-    pub handed_out : (left : ℕ) (out : List ℕ) → left ≡ left_over amount ws → out ≡ by_place floors (λ k. get_or floors k 0 + cond (ltb (count_by (λ other. ltb (get_or stands k 0) other) stands) left) 1 0) → out ≡ largest_remainder amount ws
+    pub handed_out : (left : ℕ) (out : List ℕ) → left ≡ left_over amount ws → out ≡ by_place floors (λ k. get_or floors k 0 + cond (ltb (count_by (λ other. is_higher (get_or stands k unstood) other) stands) left) 1 0) → out ≡ largest_remainder amount ws
     unfolding largest_share
     handed_out left out over e =
         let floors-long = placed_length ws _ floors floored in

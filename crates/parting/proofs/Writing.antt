@@ -5,16 +5,17 @@ use Rattle.std.proofs.lemmas.List.{get_or-set_other}
 use Rattle.std.proofs.lemmas.List.Edits.{fill_by_more}
 use Rattle.parting.specs.Places.{by_place}
 
--- one place more of a list that is written by place
-pub written : (f : ℕ → ℕ) (xs : List ℕ) (i v : ℕ) → i < length xs → ((k : ℕ) → k < i → get_or xs k 0 ≡ f k) → v ≡ f i → (k : ℕ) → k < i + 1 → get_or (set xs i v) k 0 ≡ f k
-written f xs i v l before e = rw e (fill_by_more f xs i 0 l before)
+module _ {A : Type 0} (d : A) where
+  -- one place more of a list that is written by place
+  pub written : (f : ℕ → A) (xs : List A) (i : ℕ) (v : A) → i < length xs → ((k : ℕ) → k < i → get_or xs k d ≡ f k) → v ≡ f i → (k : ℕ) → k < i + 1 → get_or (set xs i v) k d ≡ f k
+  written f xs i v l before e = rw e (fill_by_more f xs i d l before)
 
--- and of one that a pass turns from g to f
-pub rewritten : (f g : ℕ → ℕ) (xs : List ℕ) (k v n : ℕ) → k < length xs → ((j : ℕ) → j < k → get_or xs j 0 ≡ f j) × ((j : ℕ) → k ≤ j → j < n → get_or xs j 0 ≡ g j) → v ≡ f k → ((j : ℕ) → j < k + 1 → get_or (set xs k v) j 0 ≡ f j) × ((j : ℕ) → k + 1 ≤ j → j < n → get_or (set xs k v) j 0 ≡ g j)
-rewritten f g xs k v n l was is = (
-  λ j h. written f xs k v l was.0 is j h,
-  λ j h b. get_or-set_other xs k j v 0 (λ same. omega arith) ∙ was.1 j (omega arith) b,
-)
+  -- and of one that a pass turns from g to f
+  pub rewritten : (f g : ℕ → A) (xs : List A) (k : ℕ) (v : A) (n : ℕ) → k < length xs → ((j : ℕ) → j < k → get_or xs j d ≡ f j) × ((j : ℕ) → k ≤ j → j < n → get_or xs j d ≡ g j) → v ≡ f k → ((j : ℕ) → j < k + 1 → get_or (set xs k v) j d ≡ f j) × ((j : ℕ) → k + 1 ≤ j → j < n → get_or (set xs k v) j d ≡ g j)
+  rewritten f g xs k v n l was is = (
+    λ j h. written f xs k v l was.0 is j h,
+    λ j h b. get_or-set_other xs k j v d (λ same. omega arith) ∙ was.1 j (omega arith) b,
+  )
 
 -- a list that is written holds the number of each place
 pub placed_length : (ws : List ℕ) (f : ℕ → ℕ) (xs : List ℕ) → xs ≡ by_place ws f → length xs ≡ length ws

@@ -1,5 +1,5 @@
 -- Laws of `adds` and `tally`. Assumes nothing.
-use Rattle.std.specs.Prelude.{◌≡◌, ℕ, zero, suc, ◌+◌, ◌*◌, ◌<◌, ◌≤◌, Bool, true, false, cond, List, map, length, take, sum, sum_by, slice_index, refl}
+use Rattle.std.specs.Prelude.{◌≡◌, ℕ, zero, suc, ◌+◌, ◌*◌, ◌<◌, ◌≤◌, Bool, true, false, cond, List, map, length, take, sum, sum_by, slice_index_or, refl}
 use Rattle.std.proofs.Common.{sym, ap, ◌∙◌, inl, inr, add-one, mul-add, mul-zero, arith}
 use Rattle.std.proofs.Math.Arith.{le-zero}
 use Rattle.std.specs.List.{range_with_len}
@@ -38,12 +38,13 @@ adds_less f i zero h = omega (arith, ap (adds f) (le-zero h))
 adds_less f i (suc n) h = elim (cases_eq i (suc n)) [ inl e ↦ omega (arith, ap (adds f) e) | inr ne ↦ omega (arith, adds_less f i n (omega arith)) ]
 
 -- the sum over a list's front and over all of it, and of a list made by place
-pub adds_front : (f : ℕ → ℕ) (ws : List ℕ) (n : ℕ) → n ≤ length ws → sum_by f (take n ws) ≡ adds (λ k. f (slice_index ws k)) n
-adds_front f ws zero h = refl
-adds_front f ws (suc n) h = omega (arith, rw add-one at (sum_by_more f ws n 0 h), adds_front f ws n (omega arith))
+module _ {A : Type 0} (f : A → ℕ) (d : A) where
+  pub adds_front : (ws : List A) (n : ℕ) → n ≤ length ws → sum_by f (take n ws) ≡ adds (λ k. f (slice_index_or ws k d)) n
+  adds_front ws zero h = refl
+  adds_front ws (suc n) h = omega (arith, rw add-one at (sum_by_more f ws n d h), adds_front ws n (omega arith))
 
-pub adds_list : (f : ℕ → ℕ) (ws : List ℕ) → sum_by f ws ≡ adds (λ k. f (slice_index ws k)) (length ws)
-adds_list f ws = sym (ap (sum_by f) (take_all (length ws) ws (omega arith))) ∙ adds_front f ws (length ws) (omega arith)
+  pub adds_list : (ws : List A) → sum_by f ws ≡ adds (λ k. f (slice_index_or ws k d)) (length ws)
+  adds_list ws = sym (ap (sum_by f) (take_all (length ws) ws (omega arith))) ∙ adds_front ws (length ws) (omega arith)
 
 pub adds_by_place : (f : ℕ → ℕ) (n : ℕ) → sum (map f (range_with_len 0 n)) ≡ adds f n
 adds_by_place f zero = refl

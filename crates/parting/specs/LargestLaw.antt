@@ -44,7 +44,7 @@ module _ (amount : ℕ) (ws : List ℕ) (asked : Asked amount ws) where
       let parts = adds_plus (λ k. total * floor k) rest (length ws) in
       let out = adds_times total floor (length ws) in
       let whole = adds_times amount (λ k. slice_index ws k) (length ws) in
-      omega (arith, each, parts, out, whole, ap (λ x. amount * x) (adds_list (λ x. x) ws))
+      omega (arith, each, parts, out, whole, ap (λ x. amount * x) (adds_list (λ x. x) 0 ws))
 
   -- so the floors do not pass the amount, and what is left over is the rests together
   pub floors_le : adds floor (length ws) ≤ amount

@@ -9,6 +9,10 @@ use Rattle.parting.specs.Rule.{apart}
 pub rounds_up : (s w a t : ℕ) → 0 < t → s * a / t ≤ (s + w) * a / t
 rounds_up s w a t pos = le-div (s * a / t) ((s + w) * a) t pos (omega (arith, div-add-mod' (s * a) t, add-mul s w a))
 
+-- a quotient is the number that lies between
+pub rounded : (x t r : ℕ) → 0 < t → r ≡ x / t → (r * t ≤ x) × (x < (r + 1) * t)
+rounded x t r pos e = rw e (omega (arith, div-add-mod' x t), omega (arith, div-add-mod' x t, mod-lt x pos, add-mul (x / t) 1 t))
+
 -- the step over one weight is near that weight's exact share
 pub step_near : (s w a t : ℕ) → 0 < t → apart (((s + w) * a / t - s * a / t) * t) (w * a) < t
 step_near s w a t pos =

@@ -1,7 +1,7 @@
 //! The largest remainder rule.
-ghost use Rattle.std.specs.Prelude.{◌≡◌, ℕ, ◌+◌, ◌-◌, ◌*◌, ◌<◌, ◌≤◌, count_by, length, if◌then◌else◌, map, nat_lt, slice_index};
+ghost use Rattle.std.specs.Prelude.{◌≡◌, ℕ, ◌+◌, ◌-◌, ◌*◌, ◌<◌, ◌≤◌, count_by, length, if◌then◌else◌, map, nat_lt, slice_index, slice_index_or};
 ghost use Rattle.std.specs.List.{range_with_len};
-ghost use Rattle.parting.specs.LargestRemainder.{floor_at, largest_remainder, left_over, standing_at};
+ghost use Rattle.parting.specs.LargestRemainder.{floor_at, is_higher, largest_remainder, left_over, standing_at, standing_by, unstood};
 ghost use Rattle.parting.specs.Places.{by_place};
 ghost use Rattle.parting.specs.Rule.{Asked, most_amount, most_total, most_weights};
 ghost use Rattle.parting.specs.LargestLaw.{largest_fair};
@@ -12,22 +12,32 @@ use super::rule::{MOST_WEIGHTS, PartingRule, whole_paise};
 #[derive(Clone, Copy)]
 pub struct LargestRemainder;
 
-// Where a member stands: higher with a larger remainder, and at a lower place where two are equal.
-fn standing(rest: u64, place: usize) -> u64
-    requires { (rest < most_total) × (place < most_weights) }
-    ensures answer { result ≡ rest * most_weights + (most_weights - place) }
+/// Where a member stands: higher with a larger remainder, and at a lower place where two are equal.
+#[derive(Clone, Copy, PartialEq, Eq, PartialOrd, Ord, Default)]
+struct Standing {
+    rest: u64,
+    // The places from its own to the end of the table; 0 where there is no member, which is below any.
+    from_end: usize,
+}
+
+// Where the member at a place stands, by its remainder.
+fn stands_at(rest: u64, place: usize) -> Standing
+    requires { place < most_weights }
+    ensures answer { result ≡ standing_by rest place }
 {
-    // By `as`, since `u64` has no `From<usize>`.
-    rest * MOST_WEIGHTS as u64 + (MOST_WEIGHTS - place) as u64
+    Standing {
+        rest,
+        from_end: MOST_WEIGHTS - place,
+    }
 }
 
 // Writes each share rounded down and where its member stands, and answers the paise left over.
-// Where there is no member 0 stays, which is lower than any stands.
-fn round_down(amount: u64, weights: &[u64], into: &mut [u64], standings: &mut [u64]) -> u64
+// Where there is no member the default stays, which is lower than any stands.
+fn round_down(amount: u64, weights: &[u64], into: &mut [u64], standings: &mut [Standing]) -> u64
     requires asked { Asked amount weights.now }
     requires room { length into.old ≡ length weights.now }
     requires places { length standings.old ≡ most_weights }
-    requires blank { (k : ℕ) → k < most_weights → slice_index standings.old k ≡ 0 }
+    requires blank { (k : ℕ) → k < most_weights → slice_index_or standings.old k unstood ≡ unstood }
     ensures answer { result ≡ left_over amount weights.now }
     ensures into_after { into.new ≡ by_place weights.now (floor_at amount weights.now) }
     ensures standings_after { standings.new ≡ map (standing_at amount weights.now) (range_with_len 0 most_weights) }
@@ -39,29 +49,29 @@ fn round_down(amount: u64, weights: &[u64], into: &mut [u64], standings: &mut [u
         let floor = whole_paise(*weight, amount, total);
         let rest = *weight * amount % total;
         into[place] = floor;
-        standings[place] = standing(rest, place);
+        standings[place] = stands_at(rest, place);
         left -= floor;
     }
     left
 }
 
 // How many members stand higher.
-fn ahead(standings: &[u64; MOST_WEIGHTS], own: u64) -> u64
-    ensures answer { result ≡ count_by (λ other. nat_lt own other) standings.now }
+fn ahead(standings: &[Standing; MOST_WEIGHTS], own: Standing) -> u64
+    ensures answer { result ≡ count_by (λ other. is_higher own other) standings.now }
 {
-    // A loop, since with `filter` and `count` 16 weights took 1,820 ns in place of 440.
+    // A loop, since `filter` and `count` were slower.
     let mut ahead = 0;
     for other in standings {
-        ahead += u64::from(*other > own);
+        ahead += u64::from(own < *other);
     }
     ahead
 }
 
 // Gives one paisa more to each with fewer members ahead than there are paise left over.
-fn hand_out(left: u64, standings: &[u64; MOST_WEIGHTS], into: &mut [u64])
+fn hand_out(left: u64, standings: &[Standing; MOST_WEIGHTS], into: &mut [u64])
     requires few { length into.old ≤ most_weights }
     requires small { (k : ℕ) → k < length into.old → slice_index into.old k ≤ most_amount }
-    ensures after { into.new ≡ by_place into.old (λ k. slice_index into.old k + (if nat_lt (count_by (λ other. nat_lt (slice_index standings.now k) other) standings.now) left then 1 else 0)) }
+    ensures after { into.new ≡ by_place into.old (λ k. slice_index into.old k + (if nat_lt (count_by (λ other. is_higher (slice_index_or standings.now k unstood) other) standings.now) left then 1 else 0)) }
 {
     // By place, since a proof knows nothing of what is written through a `zip` with `iter_mut`.
     for (place, share) in into.iter_mut().enumerate() {
@@ -76,7 +86,7 @@ impl PartingRule for LargestRemainder {
     ghost fair = { λ rule amount weights asked. largest_fair amount weights asked };
 
     fn part(&self, amount: u64, weights: &[u64], into: &mut [u64]) {
-        let mut standings = [0; MOST_WEIGHTS];
+        let mut standings = [Standing::default(); MOST_WEIGHTS];
         let left = round_down(amount, weights, into, &mut standings);
         hand_out(left, &standings, into);
     }

@@ -30,7 +30,7 @@ loop-share-preserved c =
       inv.0,
       weight_less _ _ asked _ _ _ _ h inv.0 inv.1 inv.2,
       after_is _ _ asked _ _ _ _ h inv.0 inv.1 inv.2,
-      rewritten (share_from c.args.amount c.args.weights.now) _ _ _ _ _ (omega arith) inv.3 (share_is _ _ asked _ _ _ _ h inv.0 inv.1 inv.2),
+      rewritten 0 (share_from c.args.amount c.args.weights.now) _ _ _ _ _ (omega arith) inv.3 (share_is _ _ asked _ _ _ _ h inv.0 inv.1 inv.2),
     )
 
 pub returns : goal.returns

@@ -24,7 +24,7 @@ loop-share-preserved c =
       inv.0,
       seen_more _ _ asked _ _ _ _ _ h inv.0 inv.1 inv.2 next,
       reached_is _ _ asked _ _ _ _ _ h inv.0 inv.1 inv.2 next,
-      rewritten (running_share c.args.amount c.args.weights.now) _ _ _ _ _ (omega arith) inv.3 (share_is _ _ asked _ _ _ _ _ h inv.0 inv.1 inv.2 next),
+      rewritten 0 (running_share c.args.amount c.args.weights.now) _ _ _ _ _ (omega arith) inv.3 (share_is _ _ asked _ _ _ _ _ h inv.0 inv.1 inv.2 next),
     )
 
 pub returns : goal.returns
