@@ -45,7 +45,7 @@ fn round_down(amount: u64, weights: &[u64], into: &mut [u64], standings: &mut [S
     let total: u64 = weights.iter().sum();
     let mut left = amount;
     for (place, weight) in weights.iter().enumerate() {
-        // Both before `into` is written, so that one division gives both.
+        // By place, as in `hand_out`. Both numbers before `into` is written, so that one division gives both.
         let floor = whole_paise(*weight, amount, total);
         let rest = *weight * amount % total;
         into[place] = floor;
