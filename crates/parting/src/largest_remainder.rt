@@ -59,7 +59,7 @@ fn round_down(amount: u64, weights: &[u64], into: &mut [u64], standings: &mut [S
 fn ahead(standings: &[Standing; MOST_WEIGHTS], own: Standing) -> u64
     ensures answer { result ≡ count_by (λ other. is_higher own other) standings.now }
 {
-    // A loop, since with `filter` and `count` 16 weights took 1,535 ns in place of 336. `*other > own` took 808.
+    // A loop, since `filter` and `count` were slower.
     let mut ahead = 0;
     for other in standings {
         ahead += u64::from(own < *other);
