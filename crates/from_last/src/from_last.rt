@@ -13,18 +13,17 @@ impl PartingRule for FromLast {
 
     ghost fair = { λ rule amount weights asked. from_last_fair amount weights asked };
 
-    #[tactic(auto, using(crate::specs::FromLastLaw::starts))]
     fn part(&self, amount: u64, weights: &[u64], into: &mut [u64]) {
         let total: u64 = weights.iter().sum();
-        let mut weight_from = total;
-        let mut sum_from = amount;
-        into.copy_from_slice(weights);
-        for share in into.iter_mut() {
-            weight_from -= *share;
+        let mut seen = 0;
+        let mut given = 0;
+        // By place, from the last on: the steps of `specs/FromLastLaw.antt` are those of this loop.
+        for i in (0..weights.len()).rev() {
+            seen += weights[i];
             // As `whole_paise` of parting, which is not published since it has a `requires`.
-            let sum_after = weight_from * amount / total;
-            *share = sum_from - sum_after;
-            sum_from = sum_after;
+            let reached = seen * amount / total;
+            into[i] = reached - given;
+            given = reached;
         }
     }
 }

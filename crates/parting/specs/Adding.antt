@@ -1,6 +1,6 @@
 -- Laws of `adds` and `tally`. Assumes nothing.
 use Rattle.std.specs.Prelude.{◌≡◌, ℕ, zero, suc, ◌+◌, ◌*◌, ◌<◌, ◌≤◌, Bool, true, false, cond, List, map, length, take, sum, sum_by, slice_index_or, refl}
-use Rattle.std.proofs.Common.{sym, ap, ◌∙◌, inl, inr, add-one, mul-add, mul-zero, arith}
+use Rattle.std.proofs.Common.{sym, ap, ◌∙◌, inl, inr, add-one, add-zero, add-suc, mul-add, mul-zero, arith}
 use Rattle.std.proofs.Math.Arith.{le-zero}
 use Rattle.std.specs.List.{range_with_len}
 use Rattle.std.proofs.lemmas.List.Sums.{sum_by_more}
@@ -19,6 +19,10 @@ adds_same f g (suc n) h = omega (arith, adds_same f g n (λ k l. h k (omega arit
 pub adds_le : (f g : ℕ → ℕ) (n : ℕ) → ((k : ℕ) → k < n → f k ≤ g k) → adds f n ≤ adds g n
 adds_le f g zero h = omega arith
 adds_le f g (suc n) h = omega (arith, adds_le f g n (λ k l. h k (omega arith)), h n (omega arith))
+
+pub adds_on : (f : ℕ → ℕ) (i n : ℕ) → adds f (i + n) ≡ adds f i + adds (λ k. f (i + k)) n
+adds_on f i zero = omega (arith, ap (adds f) (add-zero i))
+adds_on f i (suc n) = omega (arith, ap (adds f) (add-suc i n), adds_on f i n)
 
 pub adds_plus : (f g : ℕ → ℕ) (n : ℕ) → adds (λ k. f k + g k) n ≡ adds f n + adds g n
 adds_plus f g zero = refl

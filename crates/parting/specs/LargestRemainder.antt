@@ -1,8 +1,6 @@
 -- The shares of the largest remainder rule. Assumes nothing.
 use Rattle.std.specs.Prelude.{ℕ, ◌+◌, ◌-◌, ◌*◌, ◌/◌, ◌%◌, Bool, cond, ◌&&◌, ◌||◌, List, length, sum, ◌==◌, nat_lt, slice_index}
 use Rattle.parting.specs.Places.{adds, by_place, tally}
-use Rattle.parting.specs.Rule.{most_weights}
-use Rattle.parting.specs.declared.largest_remainder.Standing.{Standing}
 
 -- By hand: multiply each weight by the sum and divide by the total of the weights; the quotient is the share
 -- rounded down, and note the remainder. See how many paise that leaves over. Number the members from the
@@ -29,22 +27,6 @@ before x j y k = nat_lt y x || (x == y && nat_lt j k)
 -- j comes before k
 abbrev pub precedes : (ℕ → ℕ) → ℕ → ℕ → Bool
 precedes rest k j = before (rest j) j (rest k) k
-
--- where nobody stands, lower than any member
-abbrev pub unstood : Standing
-unstood = record { rest = 0; from_end = 0 }
-
--- where the member at k with the remainder x stands
-abbrev pub standing_by : ℕ → ℕ → Standing
-standing_by x k = record { rest = x; from_end = most_weights - k }
-
--- where the member at k stands, higher than those that come after it
-unfoldable pub standing_at : ℕ → List ℕ → ℕ → Standing
-standing_at amount ws k = cond (nat_lt k (length ws)) (standing_by (rest_at amount ws k) k) unstood
-
--- the other stands higher
-abbrev pub is_higher : Standing → Standing → Bool
-is_higher own other = nat_lt own.rest other.rest || (own.rest == other.rest && nat_lt own.from_end other.from_end)
 
 -- how many of the first n members come before k
 abbrev pub rank_among : (ℕ → ℕ) → ℕ → ℕ → ℕ

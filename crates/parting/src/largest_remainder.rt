@@ -1,7 +1,6 @@
 //! The largest remainder rule.
-ghost use Rattle.std.specs.Prelude.{◌≡◌, ℕ, ◌+◌, ◌-◌, ◌*◌, ◌<◌, ◌≤◌, count_by, length, if◌then◌else◌, map, nat_lt, slice_index, slice_index_or};
-ghost use Rattle.std.specs.List.{range_with_len};
-ghost use Rattle.parting.specs.LargestRemainder.{floor_at, is_higher, largest_remainder, left_over, standing_at, standing_by, unstood};
+ghost use Rattle.std.specs.Prelude.{◌≡◌, ℕ, ◌+◌, ◌<◌, ◌≤◌, count_by, length, if◌then◌else◌, nat_le, nat_lt, slice_index};
+ghost use Rattle.parting.specs.LargestRemainder.{floor_at, largest_remainder, left_over, rank_among, rest_at};
 ghost use Rattle.parting.specs.Places.{by_place};
 ghost use Rattle.parting.specs.Rule.{Asked, most_amount, most_total, most_weights};
 ghost use Rattle.parting.specs.LargestLaw.{largest_fair};
@@ -12,35 +11,15 @@ use super::rule::{MOST_WEIGHTS, PartingRule, whole_paise};
 #[derive(Clone, Copy)]
 pub struct LargestRemainder;
 
-/// Where a member stands: higher with a larger remainder, and at a lower place where two are equal.
-#[derive(Clone, Copy, PartialEq, Eq, PartialOrd, Ord, Default)]
-struct Standing {
-    rest: u64,
-    // The places from its own to the end of the table; 0 where there is no member, which is below any.
-    from_end: usize,
-}
-
-// Where the member at a place stands, by its remainder.
-fn stands_at(rest: u64, place: usize) -> Standing
-    requires { place < most_weights }
-    ensures answer { result ≡ standing_by rest place }
-{
-    Standing {
-        rest,
-        from_end: MOST_WEIGHTS - place,
-    }
-}
-
-// Writes each share rounded down and where its member stands, and answers the paise left over.
-// Where there is no member the default stays, which is lower than any stands.
-fn round_down(amount: u64, weights: &[u64], into: &mut [u64], standings: &mut [Standing]) -> u64
+// Writes each share rounded down and its remainder, and answers the paise left over.
+// A remainder is below the total, so 32 bits hold it, and these are compared faster than 64.
+fn round_down(amount: u64, weights: &[u64], into: &mut [u64], rests: &mut [u32]) -> u64
     requires asked { Asked amount weights.now }
-    requires room { length into.old ≡ length weights.now }
-    requires places { length standings.old ≡ most_weights }
-    requires blank { (k : ℕ) → k < most_weights → slice_index_or standings.old k unstood ≡ unstood }
+    requires into_room { length into.old ≡ length weights.now }
+    requires rests_room { length rests.old ≡ length weights.now }
     ensures answer { result ≡ left_over amount weights.now }
     ensures into_after { into.new ≡ by_place weights.now (floor_at amount weights.now) }
-    ensures standings_after { standings.new ≡ map (standing_at amount weights.now) (range_with_len 0 most_weights) }
+    ensures rests_after { rests.new ≡ by_place weights.now (rest_at amount weights.now) }
 {
     let total: u64 = weights.iter().sum();
     let mut left = amount;
@@ -49,33 +28,49 @@ fn round_down(amount: u64, weights: &[u64], into: &mut [u64], standings: &mut [S
         let floor = whole_paise(*weight, amount, total);
         let rest = *weight * amount % total;
         into[place] = floor;
-        standings[place] = stands_at(rest, place);
+        rests[place] = rest as u32;
         left -= floor;
     }
     left
 }
 
-// How many members stand higher.
-fn ahead(standings: &[Standing; MOST_WEIGHTS], own: Standing) -> u64
-    ensures answer { result ≡ count_by (λ other. is_higher own other) standings.now }
+// How many remainders come to at least so much.
+fn at_least(rests: &[u32], least: u32) -> u32
+    requires few { length rests.now ≤ most_weights }
+    ensures answer { result ≡ count_by (nat_le least) rests.now }
 {
     // A loop, since `filter` and `count` were slower.
-    let mut ahead = 0;
-    for other in standings {
-        ahead += u64::from(own < *other);
+    let mut count = 0;
+    for rest in rests {
+        count += u32::from(least <= *rest);
     }
-    ahead
+    count
+}
+
+// How many members come before the one at a place: at lower places those with as large a remainder, at higher ones those
+// with a larger.
+#[tactic(auto, using(crate::proofs::HandingOut::ahead_is))]
+fn ahead(rests: &[u32], place: usize) -> u32
+    requires few { length rests.now ≤ most_weights }
+    requires within { place < length rests.now }
+    requires small { slice_index rests.now place < most_total }
+    ensures answer { result ≡ rank_among (λ k. slice_index rests.now k) (length rests.now) place }
+{
+    let own = rests[place];
+    at_least(&rests[..place], own) + at_least(&rests[place + 1..], own + 1)
 }
 
 // Gives one paisa more to each with fewer members ahead than there are paise left over.
-fn hand_out(left: u64, standings: &[Standing; MOST_WEIGHTS], into: &mut [u64])
-    requires few { length into.old ≤ most_weights }
+fn hand_out(left: u64, rests: &[u32], into: &mut [u64])
+    requires few { length rests.now ≤ most_weights }
+    requires room { length rests.now ≡ length into.old }
+    requires rests { (k : ℕ) → k < length rests.now → slice_index rests.now k < most_total }
     requires small { (k : ℕ) → k < length into.old → slice_index into.old k ≤ most_amount }
-    ensures after { into.new ≡ by_place into.old (λ k. slice_index into.old k + (if nat_lt (count_by (λ other. is_higher (slice_index_or standings.now k unstood) other) standings.now) left then 1 else 0)) }
+    ensures after { into.new ≡ by_place into.old (λ k. slice_index into.old k + (if nat_lt (rank_among (λ i. slice_index rests.now i) (length rests.now) k) left then 1 else 0)) }
 {
     // By place, since a proof knows nothing of what is written through a `zip` with `iter_mut`.
     for (place, share) in into.iter_mut().enumerate() {
-        let odd = ahead(standings, standings[place]) < left;
+        let odd = u64::from(ahead(rests, place)) < left;
         *share += u64::from(odd);
     }
 }
@@ -86,8 +81,9 @@ impl PartingRule for LargestRemainder {
     ghost fair = { λ rule amount weights asked. largest_fair amount weights asked };
 
     fn part(&self, amount: u64, weights: &[u64], into: &mut [u64]) {
-        let mut standings = [Standing::default(); MOST_WEIGHTS];
-        let left = round_down(amount, weights, into, &mut standings);
-        hand_out(left, &standings, into);
+        let mut rests = [0; MOST_WEIGHTS];
+        let rests = &mut rests[0..weights.len()];
+        let left = round_down(amount, weights, into, rests);
+        hand_out(left, rests, into);
     }
 }

@@ -13,16 +13,15 @@ impl PartingRule for Running {
 
     ghost fair = { λ rule amount weights asked. running_fair amount weights asked };
 
-    #[tactic(auto, using(crate::specs::RunningLaw::starts))]
     fn part(&self, amount: u64, weights: &[u64], into: &mut [u64]) {
         let total: u64 = weights.iter().sum();
         let mut seen = 0;
         let mut given = 0;
-        into.copy_from_slice(weights);
-        for share in into.iter_mut() {
-            seen += *share;
+        for (place, weight) in weights.iter().enumerate() {
+            seen += *weight;
             let reached = whole_paise(seen, amount, total);
-            *share = reached - given;
+            // By place, as in `round_down`: a copy of the weights to write over would make the libraries for C need `memmove`.
+            into[place] = reached - given;
             given = reached;
         }
     }

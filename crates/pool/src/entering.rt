@@ -3,7 +3,7 @@ ghost use Rattle.std.specs.Prelude.{◌≡◌, ◌<◌, true, false, map, is_ok,
 ghost use Rattle.day.specs.Members.{member_at};
 ghost use Rattle.pool.specs.Calls.{amount_by, dropping, ended, enrolled_as, enrolling, entering_amount, entering_grid, kind_of_member, entering_reading, opened_on, opening, read_by, with_grid};
 ghost use Rattle.pool.specs.Rules.{enrolled, metered_member, regional_member};
-ghost use Rattle.pool.specs.Tables.{cleared, fresh, with_reading, without_entries};
+ghost use Rattle.pool.specs.Tables.{cleared, fresh, no_entries, with_reading, without_entries};
 
 use crate::accounts::Accounts;
 use crate::book::Book;
@@ -13,7 +13,7 @@ use crate::pool::Pool;
 use crate::refusal::Refusal;
 use day::{MEMBERS, Member, MemberKind};
 use facts::Kind;
-use member_day::{BLOCKS, ReadingEntry};
+use member_day::{BLOCKS, GridEntry, ReadingEntry};
 use quantities::{Paise, limited};
 
 /// A member of this kind with no entries.
@@ -25,6 +25,12 @@ fn without_entries(kind: MemberKind) -> Member
         amount: None,
         readings: [None; BLOCKS],
     }
+}
+
+fn no_grid_rows() -> [Option<GridEntry>; BLOCKS]
+    ensures answer { result ≡ no_entries }
+{
+    [None; BLOCKS]
 }
 
 /// A later entry for a block replaces the earlier one.
@@ -56,7 +62,7 @@ impl Book {
         Book {
             members: [without_entries(MemberKind::Regional); MEMBERS],
             count: 0,
-            grid: [None; BLOCKS],
+            grid: no_grid_rows(),
             day: 0,
             opened: false,
             accounts: Accounts::new(),
@@ -168,7 +174,7 @@ impl<T, R> Pool<T, R> {
             return Err(Refusal::DayNotLater);
         }
         clear_all(&mut self.book.members);
-        self.book.grid = [None; BLOCKS];
+        self.book.grid = no_grid_rows();
         self.book.day = day;
         self.book.opened = true;
         Ok(())

@@ -1,14 +1,12 @@
--- The shares rounded down, where their members stand, and what is left over. Assumes nothing.
-use Rattle.std.proofs.Common.{◌≡◌, ◌+◌, length, sym, ap, ◌∙◌, inl, inr, arith}
-use Rattle.std.proofs.lemmas.Bool.{cases_lt}
+-- The shares rounded down, their remainders, and what is left over. Assumes nothing.
+use Rattle.std.proofs.Common.{◌≡◌, ◌+◌, length, ap, ◌∙◌, arith}
 use Rattle.std.proofs.lemmas.List.FromFn.{fill_by_all}
-use Rattle.parting.specs.LargestRemainder.{floor_at, left_over, standing_at, unstood}
+use Rattle.parting.specs.LargestRemainder.{floor_at, left_over, rest_at}
 use Rattle.parting.specs.Places.{adds}
-use Rattle.parting.specs.Rule.{most_weights}
 use Rattle.parting.specs.Adding.{adds_more}
 use Rattle.parting.proofs.Bounds.{product_fits, weight_le}
-use Rattle.parting.proofs.HandingOut.{floor_is, floors_front, standing_is, standing_none}
-use Rattle.parting.proofs.Writing.{rewritten, written}
+use Rattle.parting.proofs.HandingOut.{floor_is, floors_front, rest_is}
+use Rattle.parting.proofs.Writing.{written}
 use Rattle.parting.proofs.largest_remainder.round_down.Goals as goal
 
 pub whole_paise-floor-requires : goal.whole_paise-floor-requires
@@ -29,14 +27,12 @@ overflow_sub-left c =
 pub loop-place-preserved : goal.loop-place-preserved
 loop-place-preserved c =
     let total = c.loop-place.invariant.0 in
-    let h = c.loop-place-test.true in
     let floor = c.whole_paise-floor.ensures.answer ∙ floor_is c.args.amount c.args.weights.now c.loop-place.place _ total in
-    let stands = c.stands_at.ensures.answer ∙ standing_is c.args.amount c.args.weights.now c.loop-place.place _ total h in
     let more = adds_more (floor_at c.args.amount c.args.weights.now) c.loop-place.place in (
       total,
       omega (arith, floor, more, c.loop-place.invariant.1, floors_front _ _ c.requires.asked (c.loop-place.place + 1) (omega arith)),
       written 0 (floor_at c.args.amount c.args.weights.now) _ _ _ (omega arith) c.loop-place.invariant.2 floor,
-      rewritten unstood (standing_at c.args.amount c.args.weights.now) (λ _. unstood) _ _ _ _ (omega arith) c.loop-place.invariant.3 stands,
+      written 0 (rest_at c.args.amount c.args.weights.now) _ _ _ (omega arith) c.loop-place.invariant.3 (rest_is _ _ _ _ total),
     )
 
 pub returns : goal.returns
@@ -47,8 +43,5 @@ returns c =
     record {
       answer = omega (arith, given, c.loop-place.invariant.1);
       into_after = fill_by_all _ c.loop-place.into _ 0 (omega arith) (λ k h. c.loop-place.invariant.2 k (omega arith));
-      standings_after = fill_by_all _ c.loop-place.standings most_weights unstood (omega arith) (λ k h. elim (cases_lt k (length c.args.weights.now)) [
-        | inl l ↦ c.loop-place.invariant.3.0 k (omega arith)
-        | inr l ↦ c.loop-place.invariant.3.1 k (omega arith) h ∙ sym (standing_none _ _ k l)
-      ]);
+      rests_after = fill_by_all _ c.loop-place.rests _ 0 (omega arith) (λ k h. c.loop-place.invariant.3 k (omega arith));
     }

@@ -1,14 +1,15 @@
 -- What holds each turn of the rule from the last member on. Assumes nothing.
-use Rattle.std.proofs.Common.{◌≡◌, ℕ, ◌<◌, ◌≤◌, length, get_or, drop, sum}
-use Rattle.from_last.specs.FromLast.{share_from, total_from}
+use Rattle.std.proofs.Common.{◌≡◌, ℕ, ◌+◌, ◌*◌, ◌<◌, ◌≤◌, length, get_or, sum}
+use Rattle.parting.specs.Places.{adds}
+use Rattle.from_last.specs.FromLast.{share_from}
 use Rattle.from_last.proofs.from_last.FromLastPartingRule.part.Given as goal
 
--- the total, the weight and the sum of the members from here on, each share that is written, and each weight that is
--- not replaced yet
-abbrev pub invariant-loop-share : goal.invariant-loop-share
-invariant-loop-share l =
+-- the total, what was seen, beside the weights to come, and given so far, which is the exact total rounded down,
+-- and each share that is written
+abbrev pub invariant-loop-i : goal.invariant-loop-i
+invariant-loop-i l =
     (l.total ≡ sum l.weights)
-    × (l.weight_from ≡ sum (drop l.share-index l.weights))
-    × (l.sum_from ≡ total_from l.amount l.weights l.share-index)
-    × (((k : ℕ) → k < l.share-index → get_or l.into k 0 ≡ share_from l.amount l.weights k)
-    × ((k : ℕ) → l.share-index ≤ k → k < length l.weights → get_or l.into k 0 ≡ get_or l.weights k 0))
+    × (l.seen + adds (λ k. get_or l.weights k 0) l.i ≡ adds (λ k. get_or l.weights k 0) (length l.weights))
+    × (l.given * l.total ≤ l.seen * l.amount)
+    × (l.seen * l.amount < (l.given + 1) * l.total)
+    × ((k : ℕ) → l.i ≤ k → k < length l.weights → get_or l.into k 0 ≡ share_from l.amount l.weights k)
